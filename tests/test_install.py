@@ -157,8 +157,8 @@ class Libraries(Installs):
     def check_manuals(self) -> None:
         """A function's page leads to the one that has a section on it."""
         manuals = self.prefix / "share/man/man3"
-        for page, name in (("pidtab", "ask"), ("pidtab_record", "checkpoint_at"), ("pidtab_shared", "seat"), ("pidtab_saved", "put_head")):
-            self.assertEqual((manuals / f"{page}_{name}.3").read_text(), f".so man3/{page}.3\n")
+        for page, name in (("pidtab", "ask"), ("pidtab_history", "checkpoint_at"), ("pidtab_threads", "lock"), ("pidtab_saved", "saved_put_head")):
+            self.assertEqual((manuals / f"pidtab_{name}.3").read_text(), f".so man3/{page}.3\n")
             self.assertEqual((manuals / f"{page}.3").read_bytes(), (REPOSITORY / "man" / f"{page}.3").read_bytes())
 
     def test_with_the_program(self) -> None:

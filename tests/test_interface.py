@@ -38,7 +38,6 @@ DIFFERENCES = [
      "the order of MakeControl is control-busy, control-depth, and in interface/ no-control, control-depth"),
     ("crates/model_laws/specs/Refusals.antt", "× (p ≡ caller.name.space → ⊥)) Elsewhere", "× (p ≡ caller.name.space → ⊥)) TooDeep", "the order of Fork is"),
     ("crates/pid_script/src/line.rt", "`wait C own`", "`wait C mine`", "the line wait C mine is not in interface/"),
-    ("crates/saved_form/src/numbers.rt", "| 14, 15 | `getpgid`, `getsid` |", "| 14, 15 | `getsid`, `getpgid` |", "the operation 14 getsid is not in interface/"),
     ("crates/saved_form/src/numbers.rt", "pub const SET_PGID: u32 = 7;", "pub const SET_PGID: u32 = 8;", "the operation 8 is not in interface/"),
     ("crates/saved_form/src/numbers.rt", "/// | 5 | `NoneYet`", "/// | 6 | `NoneYet`", "the kind 6 NoneYet is not in interface/"),
     ("crates/saved_form/src/numbers.rt", "pub const LEVELS_KIND: u32 = 3;", "pub const LEVELS_KIND: u32 = 2;", "the kind 2 is not in interface/"),
@@ -60,8 +59,8 @@ DIFFERENCES = [
     ("crates/saved_form/src/block.rt", "pub const BLOCK: usize = 48;", "pub const BLOCK: usize = 49;", "the bound BLOCK 49 is not in interface/"),
     ("crates/saved_form/src/layout.rt", "pub const VERSION: u32 = 1;", "pub const VERSION: u32 = 2;", "the bound VERSION 2 is not in interface/"),
     ("bindings/c/pidtab.h", "uint32_t pidtab_version(void);", "uint32_t pidtab_versions(void);", "pidtab_versions is not in interface/functions.tbl"),
-    ("bindings/c/pidtab_shared.h", "uint32_t pidtab_shared_ask(", "uint32_t pidtab_shared_query(", "pidtab_shared_query is not in interface/functions.tbl"),
-    ("bindings/c/pidtab_saved.h", "void pidtab_saved_end(struct", "void pidtab_saved_stop(struct", "pidtab_saved_end is in no header"),
+    ("bindings/c/pidtab.h", "uint32_t pidtab_seat(", "uint32_t pidtab_chair(", "pidtab_chair is not in interface/functions.tbl"),
+    ("bindings/c/pidtab_saved.h", "uint32_t pidtab_saved_end(struct", "uint32_t pidtab_saved_stop(struct", "pidtab_saved_end is in no header"),
     ("bindings/c/pidtab_replica.h", "uint32_t pidtab_replica_last(const", "uint32_t pidtab_replica_latest(const", "pidtab_replica_latest is not in interface/functions.tbl"),
     ("bindings/python/pidtab/number_calls.py", "    def fork_at(self", "    def fork_as(self", "the package for python has no Table.fork_at"),
     ("bindings/python/pidtab/history.py", "    def checkpoint_at(self", "    def cut_at(self", "the package for python has no Table.checkpoint_at"),
@@ -93,13 +92,10 @@ DIFFERENCES = [
     ("linux/harness/chooser.py", "['getpgid', 'getsid', 'nspid']", "['getpgid', 'getsid']", "no random line is `nspid`"),
     ("linux/README.md", "| `next` | no call", "| others | no call", "no row says how Linux is asked for `next`"),
     ("linux/gvisor/calls.go", '\t"getsid":  ', '\t"sid":  ', "no form is `getsid`, and linux/README.md does not say that it is answered `n/a`"),
-    ("page/index.html", "getpgid C P, getsid C P</dt>", "getpgid C P</dt>", "none of the lines is `getsid C P`"),
-    ("box/src/calls.c", "QUERY(PIDTAB_GETSID)", "QUERY(PIDTAB_GETPID)", "the box makes no `getsid`"),
-    ("box/src/controls.c", "PIDTAB_COUNT", "PIDTAB_MK", "the box makes no `count`"),
+    ("box/src/controls.c", "PIDTAB_LIMIT", "PIDTAB_MK", "the box makes no `limit`"),
     ("box/src/forks.c", "PIDTAB_JOIN", "PIDTAB_FORK", "the box makes no `join`"),
     ("box/src/groups.c", "PIDTAB_SETSID", "PIDTAB_FORK", "the box makes no `setsid`"),
-    ("box/src/main.c", "PIDTAB_NEXT", "PIDTAB_MK", "the box makes no `next`"),
-    ("box/src/table.c", "pidtab_stat(", "pidtab_task(", "the box makes no `nspid`"),
+    ("box/src/table.c", "PIDTAB_SETPGID", "PIDTAB_EXIT", "the box makes no `setpgid`"),
     ("box/src/tracer.c", "PIDTAB_EXEC", "PIDTAB_FORK", "the box makes no `exec`"),
 ]  # fmt: skip
 
@@ -289,25 +285,23 @@ class Interface(unittest.TestCase):
             self.assertIn(", SetSubreaper, TellTale}\n", (self.top / "crates" / path).read_text(encoding="utf-8"))
 
     def test_a_question_costs_a_row(self):
-        row = ("residents", "residents, record_residents, shared_residents", "0.2.0", "caller, space=space/id?, from=from/number?", "numbers", "-", "no-caller",
+        row = ("residents", "residents", "0.2.0", "caller, space=space/id?, from=from/number?", "numbers", "-", "no-caller",
                "CLOSED, NO_MEMORY, DONE", "the residents of a namespace", "The residents of the namespace {space}, as {children} has those of a task.")  # fmt: skip
         with (self.top / "interface/questions.tbl").open("a", encoding="utf-8") as table:
             table.write(" | ".join(row) + "\n")
-        # What is by hand of it: its section of the manual pages, and a step of the cases.
-        lacking = "tools/interface: interface/record.mdoc: there is no section `== residents`\ntools/interface: interface/cases: no step asks residents\n"
+        # What is by hand of it: a step of the cases, and its paragraph of the manual page.
+        lacking = "tools/interface: interface/cases: no step asks residents\n"
         self.assertEqual(self.say("write"), (1, lacking))
         self.assertEqual(self.say(), (1, lacking))
         for path, wanted in (
-            ("bindings/c/pidtab.h", "uint32_t pidtab_record_residents(const struct pidtab_record *record, uint32_t caller, uint64_t space, uint32_t from, uint32_t *numbers, size_t room,"),
-            ("bindings/c/pidtab_shared.h", "uint32_t pidtab_shared_residents("),
-            ("bindings/c/shared.c", "\tshare_as_call(shared);\n\treturn answered(shared, pidtab_record_residents(&shared->record, caller, space, from, numbers, room, reply));"),
+            ("bindings/c/pidtab.h", "uint32_t pidtab_residents(const struct pidtab *table, uint32_t caller, uint64_t space, uint32_t from, uint32_t *numbers, size_t room,"),
             ("bindings/go/questions.go", "\nfunc (shared *Shared) Residents(caller uint32, space uint64, from uint32) ([]uint32, error) {\n"),
             ("bindings/go/cluster/queries.go", "\nfunc (table *Replicated) Residents("),
             ("bindings/rust/src/questions.rs", "        self.look().residents(caller, space, from)\n"),
             ("bindings/python/pidtab/native.py", "    def residents(self, caller: int, space: int = 0, start: int = 0) -> tuple[int, ...]:\n"),
             ("bindings/python/pidtab/raw.py", '    "pidtab_residents": (U32, [TABLE, U32, U64, U32, NUMBER_32, SIZE_T, REPLY]),\n'),
             ("bindings/js/src/calls.js", "  residents(caller, space = 0n, start = 0) {\n"), ("bindings/js/pidtab.d.ts", "  residents(caller: number, space?: Long, start?: number): number[];\n"),
-            ("bindings/js/wasm/around.c", "uint32_t EXPORTED(residents)("), ("bindings/c/test_cases.c", "ASKED(residents, (uint32_t)n[0], n[1], (uint32_t)n[2], to->numbers, room, &to->reply);"),
+            ("bindings/js/wasm/around.c", "uint32_t EXPORTED(residents)("), ("bindings/c/test_cases.c", "pidtab_residents(table, (uint32_t)n[0], n[1], (uint32_t)n[2], to->numbers, room, &to->reply);"),
             ("bindings/rust/src/cases.rs", '"residents" => say_page($it.residents($n[0] as u32, $n[1], $n[2] as u32)),'),
             ("bindings/go/cases_test.go", "\t\treturn of(it.Residents(uint32(n[0]), n[1], uint32(n[2]))), true\n"), ("docs/LIBRARY.md", "| the residents of a namespace | `pidtab_residents` | `Ask.residents` |"),
         ):  # fmt: skip
@@ -315,12 +309,10 @@ class Interface(unittest.TestCase):
                 self.assertIn(wanted, (self.top / path).read_text(encoding="utf-8"))
 
     def test_a_section_of_a_manual_page(self):
-        path = "interface/record.mdoc"
-        self.plant(path, "== keep\n", "== keeps\n")
+        path = "man/pidtab_history.3"
+        self.plant(path, '.\\" Written by tools/interface: statuses of keep.\n', "")
         status, said = self.say()
-        self.assertEqual(status, 1)
-        self.assertIn(f"tools/interface: {path}: there is no section `== keep`\ntools/interface: {path}: the section `== keeps` is of no function\n", said)
-        self.assertIn("tools/interface: man/pidtab_record.3:", said)
+        self.assertEqual((status, said), (1, f'tools/interface: {path}: the line `.\\" Written by tools/interface: statuses of keep.` is there 0 times, not once\n'))
 
     def test_a_field_that_no_example_has(self):
         path = "bindings/example.list"

@@ -45,17 +45,18 @@ pidtab_call_told(        .told.              .told(              .Told(         
 pidtab_would(            .would.             .would(             .Would(            .would.
 pidtab_fork_at(          .fork_at(           .fork_at(           .ForkAt(           .forkAt(
 pidtab_reply_line(       -                   reply.line(         reply.Line(        -
-pidtab_shared_wait(      .wait_changed(      .wait_changed(      .WaitChanged(      -
+pidtab_await(            .wait_changed(      .wait_changed(      .WaitChanged(      -
 """
 
 # The pages of the library's functions.
 LIBRARY_PAGES = sorted(path.name for path in MANUAL.glob("*.3"))
 
 STATUSES = {"DONE", "NOT_KEPT", "CLOSED", "AGAIN", "NO_MEMORY", "BUSY", "OUT_OF_RANGE", "NO_ROOM", "EMPTY_LINE", "BAD_LINE", "DIFFERS", "SPENT", "BAD_TEXT"}
-STATUSES |= {"DEVICE", "NOT_SAVED", "NOT_EMPTY", "ENDED", "TORN", "WRONG_BYTE", "OTHER_VERSION"}
+STATUSES |= {"NO_HISTORY", "NO_THREADS", "DEVICE", "NOT_SAVED", "NOT_EMPTY", "ENDED", "TORN", "WRONG_BYTE", "OTHER_VERSION"}
 
-# What the header says of these by the name of another.
-INNER = {"pidtab_record_close": "pidtab_close", "pidtab_record_list": "pidtab_list", "pidtab_record_opening": "pidtab_list"}
+# What the header says of this by the name of another, and what it says once of many.
+INNER = {"pidtab_opening": "pidtab_list"}
+SAID_ONCE = {"BUSY", "NO_HISTORY", "NO_THREADS"}
 
 
 def printed_by(code: str) -> str:
@@ -72,16 +73,10 @@ def statuses_in(header: str) -> list[tuple[str, str, str]]:
 
 def statuses_of(name: str) -> set[str]:
     """The statuses that the header lists with a function, or with the one whose work it does."""
-    if name in ("pidtab_shared_close", "pidtab_shared_lock", "pidtab_shared_unlock", "pidtab_shared_end"):
-        return set()
-    kind = re.match("pidtab(_shared|_saved)?", name)[0]
-    header = read_page(f"bindings/c/{kind}.h")
+    header = read_page(f"bindings/c/{'pidtab_saved' if name.startswith('pidtab_saved_') else 'pidtab'}.h")
     before = header.partition(f"\nuint32_t {name}(")[0]
     words = re.findall(r"\b[A-Z_]{4,}\b", before[before.rindex("/*") :])
-    if "DONE" in words:
-        return {it.removeprefix("PIDTAB_") for it in words} & STATUSES
-    inner = name.replace("pidtab_shared_", "pidtab_record_") if name.startswith("pidtab_shared_") else INNER[name]
-    return statuses_of(inner)
+    return {it.removeprefix("PIDTAB_") for it in words} & STATUSES if "DONE" in words else statuses_of(INNER[name])
 
 
 class Examples(unittest.TestCase):
@@ -256,26 +251,25 @@ class LibraryManuals(unittest.TestCase):
     """The manual pages of the library's functions, by the headers."""
 
     def test_each_status(self) -> None:
-        # BUSY is said once for all.
-        for page in ("pidtab_record.3", "pidtab_shared.3"):
+        for page, least in (("pidtab_history.3", 15), ("pidtab_threads.3", 2)):
             sections = re.split(r"^\.S[sh] ", (MANUAL / page).read_text(), flags=re.MULTILINE)
-            shown = {it.split()[0]: re.findall(r"^\.It Dv PIDTAB_(\w+)", it, re.MULTILINE) for it in sections if it.startswith("pidtab_")}
-            self.assertGreater(len(shown), 13)
+            shown = {it.split()[0]: re.findall(r"^\.It Dv PIDTAB_(\w+)", it, re.MULTILINE) for it in sections if it.startswith("pidtab_") and "\n.It Dv" in it}
+            self.assertGreaterEqual(len(shown), least)
             for name, statuses in shown.items():
                 with self.subTest(name):
                     self.assertEqual(len(statuses), len(set(statuses)))
-                    self.assertEqual(set(statuses) - {"BUSY"}, statuses_of(name) - {"BUSY"})
+                    self.assertEqual(set(statuses) - SAID_ONCE, statuses_of(name) - SAID_ONCE)
 
     def test_each_status_of_a_saved_history(self) -> None:
         text = (MANUAL / "pidtab_saved.3").read_text()
         found = re.findall(r'^\.\\" Written by tools/interface: statuses of (saved_\w+)\.\n(.*?)^\.El$', text, re.MULTILINE | re.DOTALL)
         shown = {name: set(re.findall(r"^\.It Dv PIDTAB_(\w+)", body, re.MULTILINE)) for name, body in found}
         wanted = {name: statuses_of(f"pidtab_{name}") for name in shown}
-        # The header says these by others: a shared record waits where another is BUSY, and a resume begins a TORN head.
+        # The header says these by others: a saver waits where another is BUSY, and a resume begins a TORN head.
         wanted["saved_serve"] |= wanted["saved_append"] - {"BUSY"}
         wanted["saved_wait"] |= wanted["saved_serve"]
         wanted["saved_resume"] = wanted["saved_load"] - {"TORN"}
-        self.assertEqual(len(shown), 12)
+        self.assertEqual(len(shown), 14)
         self.assertEqual(shown, wanted)
 
     def test_the_statuses_together(self) -> None:

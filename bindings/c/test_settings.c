@@ -295,7 +295,7 @@ static void in_one_go(void)
 	CHECK(pidtab_close(&table) == PIDTAB_DONE);
 }
 
-/* The lock of a table takes memory too: where there is none, nothing is to be closed, and nothing stays behind. */
+/* The lock of a table takes memory too: where there is none, nothing is to be closed, and nothing is left. */
 static void want_of_memory(void)
 {
 	const struct pidtab_settings settings = { .keep = 1, .threads = true };

@@ -69,8 +69,6 @@ def compare_calls(tables, top):
     call.same_order("the order of calls", start, names, [it.model for it in calls])
     told = [(at, (form,)) for at, (forms,) in line.found(r"^/// \| (`.*`) \| \[`Call::") for form in re.findall(r"`([^`]+)`", forms)]
     line.same("the line", told, [(form,) for form in all_forms(tables)])
-    told = [(at, it) for at, (numbers, words) in saved.found(r"^/// \| ([\d, ]+) \| `([a-z`, ]+)` \|") for it in zip(numbers.split(", "), words.split("`, `"))]
-    saved.same("the operation", told, [(str(it.number), it.call) for it in calls])
     saved.same_matches("the operation", r"^pub const SET_PGID: u32 = (\d+);", [(str(it.number),) for it in calls if it.call == "setpgid"])
     return [fault for source in sources for fault in source.faults]
 

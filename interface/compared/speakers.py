@@ -1,11 +1,10 @@
-"""That those who speak calls know each of them: the service, real processes, gVisor, the box and the page. What they do for it is their own."""
+"""That those who speak calls know each of them: the service, real processes, gVisor and the box. What they do for it is their own."""
 
 import re
 
 from arguments import arguments_of
 from compared.sources import Source
 from names import camel, capitals
-from written.lines import forms_of
 
 COMMANDS = "service/src/commands.rs"
 RIGHTS = "service/src/rights.rs"
@@ -15,15 +14,11 @@ HARNESS = "linux/harness/world.py"
 CHOOSER = "linux/harness/chooser.py"
 LINUX = "linux/README.md"
 GVISOR = "linux/gvisor/calls.go"
-PAGE = "page/index.html"
-OF_BOX = tuple(f"box/src/{name}.c" for name in ("calls", "controls", "forks", "groups", "main", "table", "tracer"))
-PATHS = (COMMANDS, RIGHTS, RANDOM, WORLD, HARNESS, CHOOSER, LINUX, GVISOR, PAGE, *OF_BOX)
+OF_BOX = tuple(f"box/src/{name}.c" for name in ("controls", "forks", "groups", "table", "tracer"))
+PATHS = (COMMANDS, RIGHTS, RANDOM, WORLD, HARNESS, CHOOSER, LINUX, GVISOR, *OF_BOX)
 
 # What a command of the service takes for an argument, by its kind.
 TAKES = {"number": "Process", "byte": "Status", "id": "Control", "new": "New", "which": "Which", "use": "Kind", "on": "Switch", "most": "Limit"}
-
-# What the box asks in the place of a call.
-INSTEAD = {"nspid": "pidtab_stat("}
 
 
 def taken(argument):
@@ -71,26 +66,16 @@ def compare_gvisor(source, page, calls):
 
 
 def compare_box(sources, calls):
-    """The calls that the box makes nowhere, but those that it asks something else instead of."""
+    """The calls that change the table, and that the box makes nowhere. What it reads it may ask by questions."""
     text = "".join(it.text for it in sources)
-    lacking = [it for it in calls if not re.search(rf"\bPIDTAB_{capitals(it.call)}\b", text) and INSTEAD.get(it.call, "{}") not in text]
-    return [f"interface/calls.tbl:{it.at}: the box makes no `{it.call}`, and interface/compared/speakers.py does not say what it asks instead" for it in lacking]
-
-
-def compare_page(source, tables):
-    """The page lists a form of each call."""
-    text, start = source.body('\n      <dl class="calls">\n', "</dl>")
-    told = {form for group in re.findall(r"<dt>(.*?)</dt>", text) for form in group.split(", ")}
-    for it in tables["calls"]:
-        forms = [form for form in forms_of(tables).values() if form.split(" ")[0] == it.call]
-        if not told & set(forms):
-            source.say(start, f"none of the lines is {' or '.join(f'`{form}`' for form in forms)}")
+    lacking = [it for it in calls if it.query == "no" and not re.search(rf"\bPIDTAB_{capitals(it.call)}\b", text)]
+    return [f"interface/calls.tbl:{it.at}: the box makes no `{it.call}`" for it in lacking]
 
 
 def differences(tables, top):
     """What differs, as sentences with file and line."""
     calls = tables["calls"]
-    commands, rights, dice, world, harness, chooser, linux, gvisor, page, *box = sources = [Source(top, path) for path in PATHS]
+    commands, rights, dice, world, harness, chooser, linux, gvisor, *box = sources = [Source(top, path) for path in PATHS]
     compare_commands(commands, calls)
     compare_words(rights, "\n    fn may_make(&mut self, call: Call) -> bool {\n", "\n    }\n", r"\bCall::{name}\b", calls, "nobody says who may make")
     compare_words(dice, "\ndef random_line(", "\n\n\n", r"\b{call}\b", calls, "no random line is")
@@ -98,5 +83,4 @@ def differences(tables, top):
     compare_words(chooser, "", "", r"[\"']{call}[\"' ]", calls, "no random line is")
     compare_words(linux, "\n## How lines are asked\n", "\n## ", r"`{call}`", calls, "no row says how Linux is asked for")
     compare_gvisor(gvisor, linux, calls)
-    compare_page(page, tables)
     return [fault for source in sources for fault in source.faults] + compare_box(box, calls)

@@ -1,5 +1,6 @@
 """The lines of the script language: what each call has in words, with a letter for each of its numbers."""
 
+import html
 import re
 import textwrap
 from itertools import groupby, product
@@ -96,7 +97,12 @@ def rust(tables):
     return [f"const FORMS: [&str; {len(forms)}] = [", *[f'    "{form}",' for form in forms], "];"]
 
 
+def page(tables):
+    """A list of the page in the browser."""
+    return [f"        <dt>{', '.join(forms)}</dt><dd>{html.escape(row.asks, quote=False)}</dd>" for row, forms in rows_of(tables)]
+
+
 PARTS = {
-    ("docs/SCRIPT.md", "commands"): commands, ("man/pidtab.5", "commands"): manual, ("bindings/python/pidtab/language.py", "forms"): python, ("page/language.js", "forms"): javascript,
+    ("page/index.html", "lines"): page, ("docs/SCRIPT.md", "commands"): commands, ("man/pidtab.5", "commands"): manual, ("bindings/python/pidtab/language.py", "forms"): python, ("page/language.js", "forms"): javascript,
     ("bindings/go/pidtabtest/aim.go", "forms"): go, ("bindings/rust/src/testing.rs", "forms"): rust,
 }  # fmt: skip

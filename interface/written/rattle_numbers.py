@@ -1,9 +1,12 @@
 """The crates: the rows of calls as numbers."""
 
+import re
+
 from model import call, caller_of, code, fields, imported, is_numbered, named, of
 from names import capitals, wrapped
-from places import arms, definition, imports
+from places import Place, arms, definition, imports
 
+SAVED = "crates/saved_form/src/numbers.rt"
 TELLS = "crates/foreign_numbers/src/call_numbers.rt"
 TELLS_MODEL = "crates/foreign_numbers/specs/CallNumbers.antt"
 
@@ -19,6 +22,16 @@ def numbers(tables):
         told = "; ".join(f"{it.field} = {NUMBERS.get(it.kind, '{}').format(name)}" for it, name in named(row) if it.field != "caller")
         said = "wait_numbers caller which" if "which" in held else "limit_numbers id limit" if "most" in held else f"record ({blank}) {{ {told} }}" if told else blank
         lines.append(f"call_numbers {call(row)} = {said}".replace(" kind ", " what ").replace(" kind;", " what;"))
+    return lines
+
+
+def operations(tables):
+    """What each operation takes, in the documentation of the numbers."""
+    said = {name: "choice`: " + ", ".join(f"{it.number} {it.word}" for it in of(tables, name)) for name in ("which", "use")}
+    lines = []
+    for row in tables["calls"]:
+        takes = re.sub(r"\{choice\}: \{(\w+)\}", lambda it: f"`{said[it[1]]}", row.takes)
+        lines.append(f"/// | {row.number} | `{row.call}` | {re.sub(r'[{}]', '`', takes)} |")
     return lines
 
 
@@ -84,6 +97,7 @@ def broken_imports(tables):
 
 
 ROWS = {
+    (SAVED, "operations"): (Place(r"/// \| Operation \| Call \| Takes \|", r"/// \|---\|---\|---\|", r"///|#\[.*"), operations),
     (TELLS_MODEL, "imports of Call"): (imports("Call"), broken_imports),
     (TELLS_MODEL, "wait_numbers"): (definition("wait_numbers"), wait_numbers),
     (TELLS_MODEL, "kind_number"): (definition("kind_number"), lambda tables: [f"kind_number kind.{it.model} = {it.number}" for it in of(tables, "use")]),

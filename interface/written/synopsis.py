@@ -9,18 +9,26 @@ from written.c_calls import prototype
 
 # The pages, each with its header, how its functions begin, and what is a table there.
 PAGES = {
-    "man/pidtab.3": ("pidtab.h", ""),
+    "man/pidtab.3": ("pidtab.h", ""), "man/pidtab_history.3": ("pidtab.h", ""), "man/pidtab_threads.3": ("pidtab.h", ""),
     "man/pidtab_saved.3": ("pidtab_saved.h", "saved_"), "man/pidtab_replica.3": ("pidtab_replica.h", "replica_"),
+}  # fmt: skip
+# The functions of pidtab.h that have pages of their own.
+APART = {
+    "man/pidtab_history.3": (
+        "call_by", "calls", "line_by", "fork_at_by", "call_told_by", "seat", "counts", "worker", "entry", "read", "replay", "keep", "checkpoint", "checkpoint_at", "opening", "follow",
+    ),
+    "man/pidtab_threads.3": ("lock", "unlock", "await", "end"),
 }  # fmt: skip
 # The functions of a page that tell words of numbers. They are inline.
 WORDS = {"man/pidtab.3": ("word", "text", "fault_text"), "man/pidtab_saved.3": ("saved_text",), "man/pidtab_replica.3": ("replica_text",)}
 
 
 def functions_of(tables, path):
-    """The functions of a page, in the order of the header. Those of a record have a page of their own."""
+    """The functions of a page, in the order of the header."""
     header, prefix = PAGES[path]
-    found = tables["headers"].of(header, prefix)
-    return found
+    others = {name for page, names in APART.items() if page != path for name in names}
+    found = [it for it in tables["headers"].of(header, prefix) if header != "pidtab.h" or it.name not in others]
+    return [it for it in found if it.name in APART[path]] if path in APART else found
 
 
 def names(tables, path):
@@ -119,7 +127,6 @@ def parts_of(tables):
     for path in PAGES:
         parts |= {(path, "names"): part(names, path), (path, "synopsis"): part(synopsis, path)}
     known = {name: it.statuses for it in tables["functions"] for name in words_of(it.functions)}
-    of_saved = [it.name for it in functions_of(tables, "man/pidtab_saved.3") if known.get(it.name, "-") != "-"]
-    parts |= {("man/pidtab_saved.3", f"statuses of {name}"): part(statuses, name) for name in of_saved}
-    of_replica = [it.name for it in functions_of(tables, "man/pidtab_replica.3") if it.name in known]
-    return parts | {("man/pidtab_replica.3", f"statuses of {name}"): part(statuses, name) for name in of_replica}
+    parts |= {("man/pidtab_history.3", "struct entry"): part(struct, "pidtab_entry")}
+    pages = [path for path in PAGES if path != "man/pidtab.3"]
+    return parts | {(path, f"statuses of {it.name}"): part(statuses, it.name) for path in pages for it in functions_of(tables, path) if known.get(it.name, "-") != "-"}

@@ -45,14 +45,13 @@ def module_header(header):
     return local(header)
 
 
-def around(text, kind):
-    """A file of bindings/c, whose own functions get names of their own."""
-    text = re.sub(r'^#include "proved\.h"\n', "", text, flags=re.MULTILINE)
-    return re.sub(r"\b(enter|leave|enter_query|leave_query|held_by|put_back)\(", rf"\1_{kind}(", text)
+def around(text):
+    """A file of bindings/c without what it takes in: the headers of that folder stand before it, or what is here in their place."""
+    return re.sub(r'^#include "\w+\.h"\n', "", text, flags=re.MULTILINE)
 
 
 def join(code, header, portable, bindings):
     """The one file, of the code and the header of wasm2c, and of the files in two folders."""
     parts = [(portable / "runtime.h").read_text(), module_header(header), module_code(code), (portable / "instance.c").read_text()]
-    parts += [around((bindings / f"{name}.c").read_text(), kind) for name, kind in (("guard", "table"), ("guard_record", "record"))]
+    parts += [around((bindings / name).read_text()) for name in ("guard.h", "guard.c", "settings.c", "follow.c")]
     return "\n".join(parts)

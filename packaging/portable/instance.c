@@ -1,4 +1,4 @@
-/* The functions that guard.c and guard_record.c call, over an instance of the module. What a function takes is written into the memory of the instance
+/* The functions that guard.c, settings.c and follow.c call, over an instance of the module. What a function takes is written into the memory of the instance
  * at the places of bindings/js/wasm/around.c, and what it tells is read from there. */
 #if defined(__GNUC__) && !defined(__TINYC__)
 #pragma GCC diagnostic pop
@@ -9,7 +9,7 @@ typedef Z_pidtab_instance_t instance;
 /* A query writes what it takes into the memory of the instance, so two take turns. */
 #define PIDTAB_MOST_QUERIES 1
 
-enum place { CALL, REPLY, TASK, SPACE, FAULT, NUMBERS, SIZE, LINE, ANSWER };
+enum place { CALL, REPLY, TASK, SPACE, FAULT, SETTINGS, NUMBERS, SIZE, LINE, ANSWER };
 enum { LINE_ROOM = 208 };
 
 static uint8_t *at_place(instance *it, enum place what)
@@ -191,39 +191,22 @@ uint32_t pidtab_reply_line(const struct pidtab_reply *reply, void *answer, size_
 	return it ? line_of(it, Z_pidtabZ_reply_line(it, PIDTAB_LONGEST_ANSWER), ANSWER, answer, room, size) : PIDTAB_NO_MEMORY;
 }
 
-uint32_t proved_open(struct pidtab *table, uint32_t pid_max)
+uint32_t proved_open_with(struct pidtab *table, const struct pidtab_settings *settings)
 {
 	instance *it;
 
 	if (table->is_open)
 		return PIDTAB_BUSY;
 	it = new_instance();
-	return it ? kept(&table->at, &table->is_open, it, Z_pidtabZ_open(it, pid_max)) : PIDTAB_NO_MEMORY;
+	if (!it)
+		return PIDTAB_NO_MEMORY;
+	put(it, SETTINGS, settings, sizeof *settings);
+	return kept(&table->at, &table->is_open, it, Z_pidtabZ_open_with(it));
 }
 
 void proved_close(struct pidtab *table)
 {
 	closed(&table->at, &table->is_open);
-}
-
-uint32_t proved_load(struct pidtab *table, const void *text, size_t length, struct pidtab_fault *fault)
-{
-	instance *it;
-	uint32_t address, status = PIDTAB_NO_MEMORY;
-
-	*fault = (struct pidtab_fault){ 0, 0 };
-	if (table->is_open)
-		return PIDTAB_BUSY;
-	it = new_instance();
-	if (!it)
-		return status;
-	address = copied(it, text, length);
-	if (address) {
-		status = Z_pidtabZ_load(it, address, (uint32_t)length);
-		get(it, FAULT, fault, sizeof *fault);
-		Z_pidtabZ_give(it, address);
-	}
-	return kept(&table->at, &table->is_open, it, status);
 }
 
 uint32_t proved_list(struct pidtab *table, void *bytes, size_t room, size_t *size)
@@ -378,8 +361,10 @@ struct told {
 /* The call that the instance was given. */
 static uint32_t make_told(instance *it, uint32_t worker, uint32_t address, uint32_t room, struct told *told)
 {
-	uint32_t status = Z_pidtabZ_call_told_by(it, worker, address, room);
+	uint32_t status;
 
+	put(it, NUMBERS, told, sizeof *told);
+	status = Z_pidtabZ_call_told_by(it, worker, address, room);
 	if (status == PIDTAB_DONE || status == PIDTAB_NO_ROOM)
 		get(it, NUMBERS, told, sizeof *told);
 	return status;
@@ -405,21 +390,7 @@ static uint32_t told_effects(instance *it, uint32_t worker, const struct pidtab_
 	return fetched(it, status, REPLY, reply, sizeof *reply);
 }
 
-uint32_t proved_open_with(struct pidtab *table, uint32_t pid_max, uint64_t first_stamp, uint32_t workers)
-{
-	instance *it;
-
-	if (table->is_open)
-		return PIDTAB_BUSY;
-	it = new_instance();
-	if (!it)
-		return PIDTAB_NO_MEMORY;
-	put(it, NUMBERS, &first_stamp, sizeof first_stamp);
-	return kept(&table->at, &table->is_open, it, Z_pidtabZ_open_with(it, pid_max, workers));
-}
-
-/* The counts have room for as many workers as there may be; more are out of range whatever they are. */
-uint32_t proved_load_with(struct pidtab *table, const void *text, size_t length, const uint64_t *counts, size_t workers, struct pidtab_fault *fault)
+uint32_t proved_load_with(struct pidtab *table, const void *text, size_t length, const uint64_t *counts, size_t workers, bool keeps_history, struct pidtab_fault *fault)
 {
 	size_t known = workers < PIDTAB_MOST_WORKERS ? workers : PIDTAB_MOST_WORKERS;
 	instance *it;
@@ -436,13 +407,63 @@ uint32_t proved_load_with(struct pidtab *table, const void *text, size_t length,
 	address = copied(it, text, length);
 	if (address) {
 		put(it, NUMBERS, counts, known * sizeof *counts);
-		status = Z_pidtabZ_load_with(it, address, (uint32_t)length, (uint32_t)workers);
+		status = Z_pidtabZ_load_with(it, address, (uint32_t)length, (uint32_t)workers, keeps_history);
 		get(it, FAULT, fault, sizeof *fault);
 		Z_pidtabZ_give(it, address);
 	}
 	return kept(&table->at, &table->is_open, it, status);
 }
 
+uint32_t proved_call(struct pidtab *table, const struct pidtab_call *call, struct pidtab_reply *reply)
+{
+	return table->is_open ? replied(table->at, Z_pidtabZ_call, call, reply) : PIDTAB_CLOSED;
+}
+
+/* A query that tells one number, made as a call: DONE, or the status, or the error of its refusal. */
+static uint32_t number_of(struct pidtab *table, struct pidtab_call query, uint64_t *number)
+{
+	struct pidtab_reply reply;
+	uint32_t status = proved_call(table, &query, &reply);
+
+	if (status != PIDTAB_DONE)
+		return status;
+	if (reply.kind == PIDTAB_REFUSED)
+		return reply.error;
+	*number = reply.first;
+	return PIDTAB_DONE;
+}
+
+uint32_t proved_getpid_of(struct pidtab *table, uint32_t caller, uint64_t *number)
+{
+	return number_of(table, (struct pidtab_call){ .operation = PIDTAB_GETPID, .caller = caller }, number);
+}
+
+uint32_t proved_getppid_of(struct pidtab *table, uint32_t caller, uint64_t *number)
+{
+	return number_of(table, (struct pidtab_call){ .operation = PIDTAB_GETPPID, .caller = caller }, number);
+}
+
+uint32_t proved_getpgid_of(struct pidtab *table, uint32_t caller, uint32_t pid, uint64_t *number)
+{
+	return number_of(table, (struct pidtab_call){ .operation = PIDTAB_GETPGID, .caller = caller, .number = pid }, number);
+}
+
+uint32_t proved_getsid_of(struct pidtab *table, uint32_t caller, uint32_t pid, uint64_t *number)
+{
+	return number_of(table, (struct pidtab_call){ .operation = PIDTAB_GETSID, .caller = caller, .number = pid }, number);
+}
+
+uint32_t proved_next_of(struct pidtab *table, uint32_t caller, uint32_t kind, uint32_t from, uint64_t *number)
+{
+	return number_of(table, (struct pidtab_call){ .operation = PIDTAB_NEXT, .caller = caller, .number = from, .choice = kind }, number);
+}
+
+uint32_t proved_count_of(struct pidtab *table, uint64_t id, uint64_t *number)
+{
+	return number_of(table, (struct pidtab_call){ .operation = PIDTAB_COUNT, .id = id }, number);
+}
+
+/* A call that is recorded tells its ordinal among the numbers of the instance; any other leaves what is there. */
 uint32_t proved_call_by(struct pidtab *table, uint32_t worker, const struct pidtab_call *call, struct pidtab_reply *reply, uint64_t *ordinal)
 {
 	instance *it = table->at;
@@ -450,13 +471,14 @@ uint32_t proved_call_by(struct pidtab *table, uint32_t worker, const struct pidt
 	if (!table->is_open)
 		return PIDTAB_CLOSED;
 	put(it, CALL, call, sizeof *call);
+	put(it, NUMBERS, ordinal, sizeof *ordinal);
 	return fetched(it, fetched(it, Z_pidtabZ_call_by(it, worker), REPLY, reply, sizeof *reply), NUMBERS, ordinal, sizeof *ordinal);
 }
 
 uint32_t proved_call_keeping(struct pidtab *table, uint32_t worker, const struct pidtab_call *call, uint64_t keep, struct pidtab_reply *reply, uint64_t *ordinal)
 {
 	instance *it = table->at;
-	const uint64_t numbers[2] = { 0, keep };
+	const uint64_t numbers[2] = { *ordinal, keep };
 
 	if (!table->is_open)
 		return PIDTAB_CLOSED;
@@ -472,6 +494,7 @@ uint32_t proved_line_by(struct pidtab *table, uint32_t worker, const void *line,
 
 	if (!table->is_open)
 		return PIDTAB_CLOSED;
+	put(it, NUMBERS, ordinal, sizeof *ordinal);
 	status = Z_pidtabZ_line_by(it, worker, put_line(it, line, length), short_room(room));
 	return fetched(it, answered(it, status, answer, size), NUMBERS, ordinal, sizeof *ordinal);
 }
@@ -482,12 +505,13 @@ uint32_t proved_fork_at_by(struct pidtab *table, uint32_t worker, uint32_t calle
 
 	if (!table->is_open)
 		return PIDTAB_CLOSED;
+	put(it, NUMBERS, ordinal, sizeof *ordinal);
 	return fetched(it, foretold(it, Z_pidtabZ_fork_at_by(it, worker, caller, new_space, child, root), reply), NUMBERS, ordinal, sizeof *ordinal);
 }
 
 uint32_t proved_call_told_by(struct pidtab *table, uint32_t worker, const struct pidtab_call *call, struct pidtab_reply *reply, uint64_t *ordinal, struct pidtab_effect *effects, size_t room, uint64_t *count)
 {
-	struct told told = { 0, 0 };
+	struct told told = { *ordinal, 0 };
 	uint32_t status = table->is_open ? told_effects(table->at, worker, call, reply, effects, room, &told) : PIDTAB_CLOSED;
 
 	if (status == PIDTAB_DONE || status == PIDTAB_NO_ROOM)
@@ -632,4 +656,80 @@ uint32_t proved_checkpoint_at(struct pidtab *table, uint64_t seen)
 uint32_t proved_opening(struct pidtab *table, void *bytes, size_t room, size_t *size)
 {
 	return table->is_open ? written(table->at, Z_pidtabZ_opening, bytes, room, size) : PIDTAB_CLOSED;
+}
+
+/* No table has threads here. What guard.h and settings.c ask of threads.h. */
+struct threads {
+	struct pidtab table;
+	uint32_t queries;
+};
+
+static struct threads *threads_of(const struct pidtab *table)
+{
+	(void)table;
+	return NULL;
+}
+
+static uint32_t begin_threads(struct pidtab *table, const struct pidtab *held)
+{
+	(void)table;
+	(void)held;
+	return PIDTAB_NO_THREADS;
+}
+
+static void end_threads(struct threads *threads)
+{
+	(void)threads;
+}
+
+static uint32_t lock_for_calls(struct threads *threads, size_t count)
+{
+	(void)threads;
+	(void)count;
+	return PIDTAB_NO_THREADS;
+}
+
+static void unlock_changed(struct threads *threads)
+{
+	(void)threads;
+}
+
+static const struct pidtab *share_as_call(struct threads *threads)
+{
+	return &threads->table;
+}
+
+static const struct pidtab *share_before_calls(struct threads *threads)
+{
+	return &threads->table;
+}
+
+static uint32_t end_shared(struct threads *threads, uint32_t status)
+{
+	(void)threads;
+	return status;
+}
+
+struct pidtab *pidtab_lock(struct pidtab *table)
+{
+	(void)table;
+	return NULL;
+}
+
+void pidtab_unlock(struct pidtab *table)
+{
+	(void)table;
+}
+
+uint32_t pidtab_end(struct pidtab *table)
+{
+	return table->is_open ? PIDTAB_NO_THREADS : PIDTAB_CLOSED;
+}
+
+uint32_t pidtab_await(struct pidtab *table, uint64_t ordinal, const struct timespec *until, uint64_t *recorded)
+{
+	(void)ordinal;
+	(void)until;
+	(void)recorded;
+	return pidtab_end(table);
 }

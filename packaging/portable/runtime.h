@@ -7,7 +7,7 @@
  *   PIDTAB_NO_BOUNDS                          no access to a table's memory is checked, which is faster; no proved code needs the checks
  *   PIDTAB_MALLOC, PIDTAB_REALLOC, PIDTAB_FREE
  * Each table has a memory of its own, of at most 1 GiB, in one block that grows.
- * It has what pidtab.h declares, and neither tables that threads share, nor histories in files, nor replicas.
+ * It has what pidtab.h declares, and neither histories in files nor replicas. A table with threads is not opened: PIDTAB_NO_THREADS.
  */
 #include "pidtab.h"
 

@@ -7,9 +7,10 @@ const FILES: [&str; 8] = [
     "host_calls.S",
     "heap.c",
     "guard.c",
-    "guard_record.c",
     "guard_replica.c",
-    "shared.c",
+    "settings.c",
+    "follow.c",
+    "threads.c",
     "saved_file.c",
 ];
 

@@ -4,12 +4,12 @@ import shutil
 
 from release.files import settle, write_tarball, write_text
 
-AROUND = ("heap", "guard", "guard_record", "guard_replica", "shared", "saved_file")
-HEADERS = ("pidtab.h", "pidtab_shared.h", "pidtab_saved.h", "pidtab_replica.h", "host_calls.h")
+AROUND = ("heap", "guard", "guard_replica", "settings", "follow", "threads", "saved_file")
+HEADERS = ("pidtab.h", "pidtab_saved.h", "pidtab_replica.h", "host_calls.h")
 # Beside pidtab.S: the machine for the calls of a host.
 CALLS = "host_calls.S"
-# Of the C around it alone: it is built with it, and not installed.
-BESIDE = "proved.h"
+# Of the C around it alone: they are built with it, and not installed.
+BESIDE = ("proved.h", "guard.h", "threads.h")
 # Beside the assembler, where it is built; it takes the place of all other sources.
 ONE_FILE = "pidtab.c"
 
@@ -20,7 +20,7 @@ def add_sources(source, built, folder, head=""):
     files = [built.assembler, built.assembler.with_name(CALLS), *(source.folder / "bindings/c" / f"{it}.c" for it in AROUND)]
     for file in files:
         write_text(folder / file.name, head + file.read_text(encoding="utf-8"))
-    for name in (*HEADERS, BESIDE):
+    for name in (*HEADERS, *BESIDE):
         shutil.copyfile(source.folder / "bindings/c" / name, folder / name)
 
 

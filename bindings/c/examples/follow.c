@@ -1,12 +1,14 @@
-/* Who follows a shared table: a thread that prints each call once it is recorded, with its answer. Built by
+/* Who follows a table: a thread that prints each call once it is recorded, with its answer. Built by
  * `cc follow.c -Iout out/libpidtab.a -pthread`. */
+#include <pidtab.h>
 
 #include <inttypes.h>
+#include <pthread.h>
 #include <stdio.h>
 
 #define ROOM 2
 
-static struct pidtab shared;
+static struct pidtab table;
 
 static uint32_t print_entry(uint64_t ordinal, const struct pidtab_entry *entry)
 {
@@ -29,7 +31,7 @@ static uint32_t print_recorded(uint64_t *next)
 	uint32_t status;
 
 	do {
-		status = pidtab_read(&shared, *next, entries, ROOM, &count);
+		status = pidtab_read(&table, *next, entries, ROOM, &count);
 		for (size_t i = 0; status == PIDTAB_DONE && i < count; i++)
 			status = print_entry((*next)++, &entries[i]);
 	} while (status == PIDTAB_DONE && count == ROOM);
@@ -43,7 +45,7 @@ static void *follow(void *followed)
 	uint32_t status;
 
 	do {
-		status = pidtab_await(&shared, next, NULL, &recorded);
+		status = pidtab_await(&table, next, NULL, &recorded);
 		if (status == PIDTAB_DONE)
 			status = print_recorded(&next);
 	} while (status == PIDTAB_DONE);
@@ -62,10 +64,10 @@ static uint32_t work(void)
 		{ .operation = PIDTAB_WAIT, .caller = 1, .choice = PIDTAB_CHILD, .number = 2 }, { .operation = PIDTAB_WAIT, .caller = 1, .choice = PIDTAB_ANY } };
 	struct pidtab_reply reply;
 	uint64_t ordinal;
-	uint32_t worker, status = pidtab_seat(&shared, &worker);
+	uint32_t worker, status = pidtab_seat(&table, &worker);
 
 	for (size_t i = 0; status == PIDTAB_DONE && i < sizeof calls / sizeof calls[0]; i++)
-		status = pidtab_call_by(&shared, worker, &calls[i], &reply, &ordinal);
+		status = pidtab_call_by(&table, worker, &calls[i], &reply, &ordinal);
 	return status;
 }
 
@@ -73,7 +75,8 @@ int main(void)
 {
 	pthread_t follower;
 	bool followed = false;
-	uint32_t status = open_threads(&shared, 32768, 1, 1, PIDTAB_KEEP_ALL);
+	const struct pidtab_settings settings = { .keep = PIDTAB_KEEP_ALL, .threads = true };
+	uint32_t status = pidtab_open_with(&table, &settings);
 
 	if (status != PIDTAB_DONE) {
 		fprintf(stderr, "%s\n", pidtab_text(status));
@@ -83,12 +86,12 @@ int main(void)
 		status = work();
 		if (status != PIDTAB_DONE)
 			fprintf(stderr, "%s\n", pidtab_text(status));
-		pidtab_end(&shared);
+		pidtab_end(&table);
 		pthread_join(follower, NULL);
 	} else {
 		fprintf(stderr, "there is no thread\n");
 	}
-	pidtab_close(&shared);
+	pidtab_close(&table);
 	return status != PIDTAB_DONE || !followed;
 }
 

@@ -13,9 +13,8 @@ use Rattle.kept_table.specs.Calls.{counted, entry_of, nothing_spare, outcome, Ma
 use Rattle.kept_table.specs.Chronicle.{Chronicle, next_stamp, total}
 use Rattle.foreign_numbers.specs.Numbers.{numbers_of}
 use Rattle.foreign_numbers.specs.declared.status.TheConstants.{DONE, NOT_KEPT, NO_ROOM, OUT_OF_RANGE, SPENT, NO_MEMORY}
-use Rattle.foreign_calls.specs.Asked.{TellsAnswer}
 use Rattle.foreign_calls.specs.Held.{IsDoneOr}
-use Rattle.foreign_calls.specs.Made.{IsSpent, TellsReply}
+use Rattle.foreign_calls.specs.Made.{IsSpent}
 use Rattle.foreign_calls.specs.Calls.{HasMade, MakesCall, MakesSaid}
 use Rattle.foreign_calls.specs.Records.{memoryless, roomless}
 use Rattle.foreign_handles.specs.Held.{stamped}
@@ -25,10 +24,6 @@ use Rattle.stamped_table.specs.Stamped.{Stamped, after_call}
 use Rattle.foreign_calls.specs.Replicas.{TellsFound}
 use Rattle.foreign_calls.specs.Rooms.{KeepsRoom, PutsLine}
 
--- the numbers are those of the reply
-pub tells_reply : (told : Reply) (old new : ReplyNumbers) → new ≡ numbers_of told → TellsReply told old new DONE
-tells_reply told old new is = record { reply = λ _. is; not_done = λ not. absurd (not refl) }
-
 -- those of the last reply
 pub last_told : (last : Option Reply) (told : Reply) (new : ReplyNumbers) → last ≡ Some told → Some new ≡ option_map numbers_of last → new ≡ numbers_of told
 last_told last told new is tells = same_Some new (numbers_of told) (tells ∙ ap (option_map numbers_of) is)
@@ -36,18 +31,6 @@ last_told last told new is tells = same_Some new (numbers_of told) (tells ∙ ap
 pub again_told : (last : Option Reply) (told made : Reply) (tells saved : ReplyNumbers) → tells ≡ saved → last ≡ Some made → last ≡ Some told → tells ≡ numbers_of told
     → saved ≡ numbers_of made
 again_told last told made tells saved same is here of = sym same ∙ of ∙ ap numbers_of (same_Some told made (sym here ∙ is))
-
--- the query has its answer
-pub tells_answer : {X : Type 0} (held : X) (answer : X → Call → Reply) (said : Option Call) (asked : Call) (old new : ReplyNumbers)
-    → said ≡ Some asked → new ≡ numbers_of (answer held asked) → TellsAnswer (Some held) answer said old new DONE
-tells_answer held answer said asked old new is tells = record {
-  done = λ _. (asked, is, tells);
-  not_done = λ not. absurd (not refl);
-  out_of_range = (
-    λ out. let z : DONE ≡ OUT_OF_RANGE = out in absurd (omega (arith, z)),
-    λ none. absurd (none-some asked (sym none.1 ∙ is)),
-  );
-}
 
 -- what is there is told, and that nothing is
 pub tells_found : {X : Type 0} (found : Option X) (before after : X) → found ≡ Some after → TellsFound found before after NOT_KEPT DONE

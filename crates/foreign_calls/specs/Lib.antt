@@ -4,6 +4,7 @@ pub mod Lines
 pub mod Records
 pub mod Calls
 pub mod Numbered
+pub mod Opened
 pub mod Rooms
 pub mod Entries
 pub mod Asked

@@ -11,12 +11,15 @@ use Rattle.foreign_calls.specs.declared.table.TableSettings.{TableSettings}
 abbrev pub most_workers : ℕ → ℕ
 most_workers keep = if keep == 0 then 1 else 16
 
--- what a table can be opened with
-pub record CanOpen (s : TableSettings) : Type 0 where
-  pub bound : HasGoodPidMax s.pid_max
-  pub stamp : 0 < s.first_stamp
-  pub some : 0 < s.workers
-  pub few : s.workers ≤ most_workers s.keep
+-- what a table can be opened with that has so many workers at most
+pub record CanBegin (pid_max first_stamp workers most : ℕ) : Type 0 where
+  pub bound : HasGoodPidMax pid_max
+  pub stamp : 0 < first_stamp
+  pub some : 0 < workers
+  pub few : workers ≤ most
+
+abbrev pub CanOpen : TableSettings → Type 0
+CanOpen s = CanBegin s.pid_max s.first_stamp s.workers (most_workers s.keep)
 
 -- the root init alone, no call of any worker, and no history where none is to be kept
 abbrev pub opened : TableSettings → Held

@@ -1,2 +1,4 @@
+pub mod Walking
+pub mod Crossing
 pub mod Words
 pub mod ReplicaWords

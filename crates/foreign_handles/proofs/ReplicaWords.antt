@@ -1,25 +1,13 @@
 -- The words of `Words` for the handle of a replica. Assumes `Logic`.
-use Rattle.std.proofs.Common.{◌≡◌, ℕ, List, [], ◌∷◌, ◌++◌, refl, subst}
-use Rattle.std.specs.Prelude.{Option, Some, None}
-use seplogic.Ra.Ura.{Ura}
+use Rattle.foreign_handles.proofs.Walking.{Goal, Item, List, Logic, None, Option, Ptr, Seq, Some, Step, Ura, Val, Valss, [], block_ptr, box_owns, drop, feq_i}
+use Rattle.foreign_handles.proofs.Walking.{feq_l, fjoin, fpack, fpick, fsplit, fst∗, ghosts, in_a_block, lone, never, nothing, null_ptr, of_list, ptr_val}
+use Rattle.foreign_handles.proofs.Walking.{refl, rewrite, sem, shape, step, subst, vcons, vnil, vptr, vstruct, within, ‵, ℕ, ◌$◌, ◌++◌, ◌∷◌, ◌≡◌}
 use mir.Raw.{raw as bare}
-use mir.Val.{Val, vptr, vstruct, vcons, vnil, of_list}
-use base.Logic.{never, fst∗}
-use types.Logic.{Logic, sem}
-use types.Kit.{Item, Goal, Seq, Step, step, ‵, ◌$◌, drop, fsplit, fjoin, fpick, fpack, rewrite, feq_i, feq_l}
-use denote.RattleType.{Valss}
 use denote.Builtin.{RawPtr}
-use denote.Memory.{lone}
-use denote.RawPtr.{Ptr, block_ptr, null_ptr, ptr_val, in_a_block}
-use denote.Steps.{nothing}
-use denote.Struct.Struct.{within}
-use denote.Struct.Owning.{shape}
-use Rattle.std.specs.Box.Ownership.{box_owns}
 use Rattle.foreign_handles.specs.Owned.{IfHeld}
 use Rattle.foreign_handles.specs.contracts.replica_handle.ReplicaHandle as handle
 use Rattle.replica.specs.contracts.host.Host as table
 use Rattle.std.specs.contracts.alloc.Global as heap
-use Rattle.std.specs.contracts.impls.GlobalAllocator.TheImpl.{ghosts}
 use Rattle.foreign_handles.proofs.Words.{alone}
 
 module _ {M : Type 1} {𝓤 : Ura M} {𝓛 : Logic 𝓤} {K : Type 0} {Γ : List (Item 𝓤)} {G : Goal 𝓤 𝓛.H} where

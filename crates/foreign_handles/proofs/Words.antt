@@ -1,35 +1,23 @@
 -- What an address in C is to the prover: the machine values of a loose box and of a handle. Assumes `Logic`.
-use Rattle.std.proofs.Common.{◌≡◌, ℕ, List, [], ◌∷◌, ◌++◌, refl, subst}
+use Rattle.foreign_handles.proofs.Walking.{Goal, Item, List, Logic, None, Option, Ptr, RattleType, Seq, Some, Step, Ura, Val, Valss, [], and_tt, block_ptr}
+use Rattle.foreign_handles.proofs.Walking.{box_owns, dnil, drop, feq_i, feq_l, fjoin, fpack, fpick, fsplit, fst∗, ghosts, handle_tells, has_ty, in_a_block}
+use Rattle.foreign_handles.proofs.Walking.{layout, lone, move, never, nothing, null_ptr, of_list, ptr_val, refl, rewrite, sem, shape, step, subst, vcons}
+use Rattle.foreign_handles.proofs.Walking.{vnil, vptr, vstruct, within, ‵, ℕ, ◌$◌, ◌++◌, ◌∷◌, ◌≡◌}
 use mathlib.Core.Bool.{true, ◌&&◌}
-use Rattle.std.specs.Prelude.{Option, Some, None}
 use lib.Dec.{T}
-use seplogic.Ra.Ura.{Ura}
 use mir.Raw.{raw as bare}
-use mir.Syntax.{impl, tnil, dnil}
-use mir.Val.{Val, vptr, vstruct, vcons, vnil, of_list, has_ty, WT}
-use base.Logic.{never, fst∗}
-use types.Logic.{Logic, sem}
-use types.Kit.{Item, Goal, Seq, Step, step, ‵, ◌$◌, move, drop, fsplit, fjoin, fpick, fpack, rewrite, feq_i, feq_l}
-use denote.RattleType.{RattleType, Valss}
+use mir.Syntax.{impl, tnil}
+use mir.Val.{WT}
 use denote.Builtin.{RawPtr}
-use denote.Memory.{lone}
-use denote.RawPtr.{Ptr, block_ptr, null_ptr, ptr_val, in_a_block}
-use denote.Steps.{nothing}
-use denote.Param.{layout}
 use denote.Param.Laws.{Laws}
-use denote.Struct.Struct.{within}
-use denote.Struct.Owning.{shape}
 use Rattle.std.specs.declared.alloc.Allocator.{Ghosts}
-use Rattle.std.proofs.alloc.Calls.{Al, handle_tells}
+use Rattle.std.proofs.alloc.Calls.{Al}
 use Rattle.std.proofs.cell.Inside.{Good}
-use Rattle.std.specs.Box.Ownership.{box_owns}
-use Rattle.std.proofs.ResultValues.{and_tt}
 use Rattle.foreign_handles.specs.Owned.{IfHeld}
 use Rattle.foreign_handles.specs.contracts.handle.Handle as handle
 use Rattle.foreign_handles.specs.contracts.loose.Loose as loose
 use Rattle.foreign_handles.specs.contracts.held.Held as table
 use Rattle.std.specs.contracts.alloc.Global as heap
-use Rattle.std.specs.contracts.impls.GlobalAllocator.TheImpl.{ghosts}
 
 -- an address and a handle to an allocator
 abbrev pub beside : ℕ → ℕ → Val → Val

@@ -1,7 +1,6 @@
 -- The way up from a key: what a step leaves of it.
 use Rattle.std.proofs.Common.{◌≡◌, ℕ, zero, suc, ◌+◌, ◌-◌, ◌<◌, ◌≤◌, ◌==◌, Bool, true, false, ◌||◌, if◌then◌else◌, Option, Some, None, option_and_then, refl, sym, ap, ◌∙◌, arith, List, set, length}
 use Rattle.pids_charge.proofs.Words.{cases_eq, eq-eqb, eqb-true, get_or-set_other, get_or-set_same, option_map_or, Slab, get, counter_at, total_at, HasLevels}
-use Rattle.pids_charge.specs.Nodes.{depth}
 use Rattle.pids_charge.proofs.Words.{TreeOfNodes, is_under, left, reaches, tree_of, weight, Counter, Node}
 pub use Rattle.std.proofs.lemmas.Bool.{ne_eqb as eqb-apart}
 
@@ -39,6 +38,9 @@ weight-self t k w = reaches-self t.up t.level (up_levels t w) (t.level k) k
 pub up-is : (nodes : Slab Node) (a : ℕ) (n : Node) → get nodes a ≡ Some n → (tree_of nodes).up a ≡ n.parent
 up-is nodes a n is = ap (option_and_then (λ (x : Node). x.parent)) is
 
+pub level-is : (nodes : Slab Node) (a : ℕ) (n : Node) → get nodes a ≡ Some n → (tree_of nodes).level a ≡ n.level
+level-is nodes a n is = ap (λ o. option_map_or (λ (x : Node). x.level) o 0) is
+
 -- a walk visits a key and goes on from its parent
 pub left-step : (t : TreeOfNodes) → HasLevels t → (at : Option ℕ) (a : ℕ) (next : Option ℕ) → at ≡ Some a → next ≡ t.up a → (k : ℕ) → left t at k ≡ one_if (a == k) + left t next k
 left-step t w at a next is above k =
@@ -65,16 +67,32 @@ weight_true t j k some = grind arith
 pub weight_one : (t : TreeOfNodes) (j k : ℕ) → is_under t j k ≡ true → weight t j k ≡ 1
 weight_one t j k is = ap one_if is
 
--- no walk comes to a node that is deeper
-pub none_deeper : (t : TreeOfNodes) → HasLevels t → (at : Option ℕ) (b : ℕ) → depth t at < suc (t.level b) → left t at b ≡ 0
-none_deeper t w None b less = refl
-none_deeper t w (Some a) b less = go (is_under t a b) refl
+-- the same of a way that goes on, and of one that ends
+pub weight-step : (t : TreeOfNodes) → HasLevels t → (a p k : ℕ) → t.up a ≡ Some p → weight t a k ≡ one_if (a == k) + weight t p k
+weight-step t w a p k is = left-step t w (Some a) a (Some p) refl (sym is) k
+
+pub weight-top : (t : TreeOfNodes) → HasLevels t → (a k : ℕ) → t.up a ≡ None → weight t a k ≡ one_if (a == k)
+weight-top t w a k is = grind (arith, left-step t w (Some a) a None refl (sym is) k)
+
+-- the way up leads to lower levels
+pub under_low : (t : TreeOfNodes) → HasLevels t → (a b : ℕ) → is_under t a b ≡ true → t.level b ≤ t.level a
+under_low t w a b under = reaches_low t.up t.level (up_levels t w) (t.level a) a b refl under
+
+-- no way comes to a node that is deeper
+pub none_deeper : (t : TreeOfNodes) → HasLevels t → (a b : ℕ) → t.level a < t.level b → weight t a b ≡ 0
+none_deeper t w a b less = go (is_under t a b) refl
   where
     go : (v : Bool) → is_under t a b ≡ v → weight t a b ≡ 0
-    go true e = absurd (let low = reaches_low t.up t.level (up_levels t w) (t.level a) a b refl e in omega (arith, low, less))
+    go true e = absurd (let low = under_low t w a b e in omega (arith, low, less))
     go false e = ap one_if e
 
--- a step leads one level up
-pub one_less_deep : (t : TreeOfNodes) → HasLevels t → ((j : ℕ) → t.up j ≡ None → t.level j ≡ 0) → (at : Option ℕ) (a : ℕ) (next : Option ℕ) → at ≡ Some a → next ≡ t.up a → depth t next + 1 ≡ depth t at
-one_less_deep t w top at a None is above = omega (arith, ap (depth t) is, top a (sym above))
-one_less_deep t w top at a (Some p) is above = omega (arith, ap (depth t) is, (w a p (sym above)).1)
+-- nor to another one of the same level
+pub none_beside : (t : TreeOfNodes) → HasLevels t → (a b : ℕ) → t.level a ≡ t.level b → (a ≡ b → ⊥) → weight t a b ≡ 0
+none_beside t w a b same apart = go (t.up a) refl
+  where
+    other : one_if (a == b) ≡ 0
+    other = ap one_if (eqb-apart a b apart)
+
+    go : (up : Option ℕ) → t.up a ≡ up → weight t a b ≡ 0
+    go None is = omega (arith, weight-top t w a b is, other)
+    go (Some p) is = omega (arith, weight-step t w a p b is, other, none_deeper t w p b (omega (arith, (w a p is).1, same)))

@@ -39,10 +39,6 @@ weight t j k = if is_under t j k then 1 else 0
 abbrev pub one_at : ℕ → ℕ → ℕ
 one_at j k = if j == k then 1 else 0
 
--- how deep a walk is: a level more than its node, and 0 above the root
-abbrev pub depth : TreeOfNodes → Option ℕ → ℕ
-depth t at = option_map_or (λ a. suc (t.level a)) at 0
-
 -- what it adds to those that a walk has still to visit
 abbrev pub left : TreeOfNodes → Option ℕ → ℕ → ℕ
 left t at k = option_map_or (λ a. weight t a k) at 0

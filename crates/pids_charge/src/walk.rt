@@ -3,7 +3,7 @@
 
 ghost use Rattle.std.specs.Prelude.{◌≡◌, ℕ, ◌+◌, ◌<◌, ◌≤◌, ◌^◌, true, None, Some};
 ghost use Rattle.slab.specs.Slab.{ContainsKey};
-ghost use Rattle.pids_charge.specs.Nodes.{depth, one_at, tree_of, is_under, weight, HasLevels};
+ghost use Rattle.pids_charge.specs.Nodes.{one_at, tree_of, is_under, weight, HasLevels};
 ghost use Rattle.pids_charge.specs.Kept.{total_at, AreLinked};
 
 use crate::counter::Counter;
@@ -77,20 +77,98 @@ pub(crate) fn lower(_nodes: &Slab<Node>, counters: &mut Vec<Counter>, home: Cont
     }
 }
 
-/// How deep a walk is: one more than the level of its node, and 0 above the root.
-fn depth_at(nodes: &Slab<Node>, at: Option<ControlKey>) -> u32
-    requires there { (k : ℕ) → at ≡ Some k → ContainsKey nodes.now k }
-    requires deep { (k : ℕ) → (tree_of nodes.now).level k ≤ 64 }
-    ensures { result ≡ depth (tree_of nodes.now) at }
+/// One task less at a node and at those above it, so many in all. It answers the next one above.
+fn lower_some(
+    nodes: &Slab<Node>,
+    counters: &mut Vec<Counter>,
+    home: ControlKey,
+    levels: u32,
+) -> ControlKey
+    requires levels { HasLevels (tree_of nodes.now) }
+    requires top { (k : ℕ) → (tree_of nodes.now).up k ≡ None → (tree_of nodes.now).level k ≡ 0 }
+    requires home { ContainsKey nodes.now home }
+    requires linked { AreLinked nodes.now counters.old.items }
+    requires few { levels ≤ (tree_of nodes.now).level home }
+    requires some { (k : ℕ) → is_under (tree_of nodes.now) home k ≡ true → 0 < total_at counters.old.items k }
+    ensures there { ContainsKey nodes.now result }
+    ensures level { (tree_of nodes.now).level result + levels ≡ (tree_of nodes.now).level home }
+    ensures above { (k : ℕ) → weight (tree_of nodes.now) result k ≤ weight (tree_of nodes.now) home k }
+    ensures totals { (k : ℕ) → total_at counters.new.items k + weight (tree_of nodes.now) home k
+        ≡ total_at counters.old.items k + weight (tree_of nodes.now) result k }
+    ensures linked { AreLinked nodes.now counters.new.items }
 {
-    match at {
-        Some(key) => node_at(nodes, key).level + 1,
-        None => 0,
+    let mut at = home;
+    for _ in 0..levels {
+        let Some(above) = count_off(nodes, counters, at) else {
+            unreachable!()
+        };
+        at = above;
+    }
+    at
+}
+
+/// One task more at a node and at those above it, so many in all. It answers the next one above.
+fn raise_some(
+    nodes: &Slab<Node>,
+    counters: &mut Vec<Counter>,
+    home: ControlKey,
+    levels: u32,
+) -> ControlKey
+    requires levels { HasLevels (tree_of nodes.now) }
+    requires top { (k : ℕ) → (tree_of nodes.now).up k ≡ None → (tree_of nodes.now).level k ≡ 0 }
+    requires home { ContainsKey nodes.now home }
+    requires linked { AreLinked nodes.now counters.old.items }
+    requires few { levels ≤ (tree_of nodes.now).level home }
+    requires room { (k : ℕ) → is_under (tree_of nodes.now) home k ≡ true
+        → (tree_of nodes.now).level home < (tree_of nodes.now).level k + levels → total_at counters.old.items k + 1 < 2 ^ 64 }
+    ensures there { ContainsKey nodes.now result }
+    ensures level { (tree_of nodes.now).level result + levels ≡ (tree_of nodes.now).level home }
+    ensures above { (k : ℕ) → weight (tree_of nodes.now) result k ≤ weight (tree_of nodes.now) home k }
+    ensures totals { (k : ℕ) → total_at counters.new.items k + weight (tree_of nodes.now) result k
+        ≡ total_at counters.old.items k + weight (tree_of nodes.now) home k }
+    ensures linked { AreLinked nodes.now counters.new.items }
+{
+    let mut at = home;
+    for _ in 0..levels {
+        let Some(above) = count_on(nodes, counters, at) else {
+            unreachable!()
+        };
+        at = above;
+    }
+    at
+}
+
+/// One task goes from a node to another of the same level, and is counted off and on up to where both ways to the root
+/// meet.
+fn shift_level(nodes: &Slab<Node>, counters: &mut Vec<Counter>, from: ControlKey, to: ControlKey)
+    requires levels { HasLevels (tree_of nodes.now) }
+    requires top { (k : ℕ) → (tree_of nodes.now).up k ≡ None → (tree_of nodes.now).level k ≡ 0 }
+    requires same { (tree_of nodes.now).level from ≡ (tree_of nodes.now).level to }
+    requires from { ContainsKey nodes.now from }
+    requires to { ContainsKey nodes.now to }
+    requires linked { AreLinked nodes.now counters.old.items }
+    requires some { (k : ℕ) → is_under (tree_of nodes.now) from k ≡ true → 0 < total_at counters.old.items k }
+    requires few { (k : ℕ) → is_under (tree_of nodes.now) to k ≡ true
+        → total_at counters.old.items k + 1 < 2 ^ 64 + weight (tree_of nodes.now) from k }
+    ensures totals { (k : ℕ) → total_at counters.new.items k + weight (tree_of nodes.now) from k
+        ≡ total_at counters.old.items k + weight (tree_of nodes.now) to k }
+    ensures linked { AreLinked nodes.now counters.new.items }
+{
+    let mut less = from;
+    let mut more = to;
+    while less != more {
+        let above_less = count_off(nodes, counters, less);
+        let above_more = count_on(nodes, counters, more);
+        let (Some(next_less), Some(next_more)) = (above_less, above_more) else {
+            return;
+        };
+        less = next_less;
+        more = next_more;
     }
 }
 
 /// One task goes from a node to another: it is counted off above the one and on above the other, up to where both ways
-/// to the root meet.
+/// to the root meet. The deeper way is gone up alone to the level of the other.
 pub(crate) fn shift(
     nodes: &Slab<Node>,
     counters: &mut Vec<Counter>,
@@ -98,7 +176,6 @@ pub(crate) fn shift(
     to: ControlKey,
 )
     requires levels { HasLevels (tree_of nodes.now) }
-    requires deep { (k : ℕ) → (tree_of nodes.now).level k ≤ 64 }
     requires top { (k : ℕ) → (tree_of nodes.now).up k ≡ None → (tree_of nodes.now).level k ≡ 0 }
     requires from { ContainsKey nodes.now from }
     requires to { ContainsKey nodes.now to }
@@ -110,19 +187,9 @@ pub(crate) fn shift(
         ≡ total_at counters.old.items k + weight (tree_of nodes.now) to k }
     ensures linked { AreLinked nodes.now counters.new.items }
 {
-    let mut less = Some(from);
-    let mut more = Some(to);
-    let mut less_depth = depth_at(nodes, less);
-    let mut more_depth = depth_at(nodes, more);
-    while less != more {
-        if less_depth < more_depth {
-            let Some(key) = more else { unreachable!() };
-            more = count_on(nodes, counters, key);
-            more_depth -= 1;
-        } else {
-            let Some(key) = less else { unreachable!() };
-            less = count_off(nodes, counters, key);
-            less_depth -= 1;
-        }
-    }
+    let from_level = node_at(nodes, from).level;
+    let to_level = node_at(nodes, to).level;
+    let less = lower_some(nodes, counters, from, from_level.saturating_sub(to_level));
+    let more = raise_some(nodes, counters, to, to_level.saturating_sub(from_level));
+    shift_level(nodes, counters, less, more);
 }

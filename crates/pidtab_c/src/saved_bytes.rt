@@ -9,7 +9,7 @@ ghost use Rattle.{
   saved_form.specs.Taking.{MayBegin, IsOtherVersion, BeginsHead, BeginsEntry, IsTorn, IsWrongAt, IsTaken},
   saved_form.specs.{Ends.{StaysOpen, EndsHere, IsWrongHere, IsPassed, IsTornEnd}, declared.numbers.Head.{Head}},
   saved_form.specs.declared.numbers.EntryNumbers.{EntryNumbers},
-  foreign_calls.specs.{Held.{IsDoneOr}, Records.{CanOpen}, SavedBytes.{CanOpenBy}},
+  foreign_calls.specs.{Held.{IsDoneOr}, SavedBytes.{CanOpenBy}},
 };
 
 use foreign_calls::table::MOST_WORKERS;

@@ -23,24 +23,25 @@ pub struct Head {
 ///
 /// | Operation | Call | Takes |
 /// |---|---|---|
-/// | 0 | `fork` | `caller`, `choice`: 0, or 1 for a new namespace |
+/// | 0 | `fork` | `caller`; `choice` 1: into a new namespace |
 /// | 1 | `getpid` | `caller` |
-/// | 2 | `nspid` | `caller`, `number` |
+/// | 2 | `nspid` | `caller`, `number`: of the task |
 /// | 3 | `exec` | `caller` |
-/// | 4 | `exit` | `caller`, `number` from 0 to 255 |
-/// | 5 | `wait` | `caller`, `choice`: 0 any child, 1 the child `number`, 2 the own group, 3 the group `number` |
+/// | 4 | `exit` | `caller`, `number`: the status, 0 to 255 |
+/// | 5 | `wait` | `caller`, `number`, `choice`: 0 any, 1 pid, 2 own, 3 group |
 /// | 6 | `getppid` | `caller` |
 /// | 7 | `setpgid` | `caller`, `pid`, `pgid` |
 /// | 8 | `setsid` | `caller` |
-/// | 9 | `mk` | `id` |
+/// | 9 | `mk` | `id`: of the parent |
 /// | 10 | `rm` | `id` |
-/// | 11 | `limit` | `id`, `choice`: 0 for no limit, 1 for `number` |
-/// | 12 | `move` | `caller`, `id` |
+/// | 11 | `limit` | `id`; `choice` 1: `number` is the limit, 0: no limit |
+/// | 12 | `move` | `caller`: who is moved, `id` |
 /// | 13 | `count` | `id` |
-/// | 14, 15 | `getpgid`, `getsid` | `caller`, `number` |
-/// | 16 | `next` | `caller`, `choice`: 0 task, 1 group, 2 session, and `number` |
-/// | 17 | `join` | `caller`, `number` |
-/// | 18 | `subreaper` | `caller`, `choice`: 0 for off, 1 for on |
+/// | 14 | `getpgid` | `caller`, `number`: of the task, 0 for the caller |
+/// | 15 | `getsid` | `caller`, `number`: of the task, 0 for the caller |
+/// | 16 | `next` | `caller`, `choice`: 0 task, 1 group, 2 session, `number`: where to begin |
+/// | 17 | `join` | `caller`, `number`: of the task |
+/// | 18 | `subreaper` | `caller`; `choice` 1: on, 0: off |
 #[repr(C)]
 #[derive(Clone, Copy)]
 pub struct CallNumbers {

@@ -1,4 +1,4 @@
-use Rattle.std.proofs.Common.{◌≡◌, ◌∙◌, rules, subst, sym, refl}
+use Rattle.std.proofs.Common.{◌∙◌, rules, subst, sym, refl}
 use Rattle.pid_types.specs.State.{State}
 use Rattle.call_effects.specs.Effects.{AreEffects}
 use Rattle.call_effects.specs.Touched.{Watches}

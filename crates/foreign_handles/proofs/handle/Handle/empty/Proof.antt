@@ -1,29 +1,12 @@
 -- `empty` owns nothing.
-use Rattle.std.proofs.Common.{◌≡◌, List, [], ◌∷◌, ◌++◌, refl, sym, subst}
-use Rattle.std.specs.Prelude.{Option, None}
-use mir.Syntax.{ty_ptr}
-use mir.Val.{Val, vstruct, vcons, vnil, has_ty}
-use base.Logic.{SProp, ent, emp, id⊢}
-use base.Fml.{ftrue}
-use prog.Wp.{WpFn}
-use types.Kit.{‵, raw, ◌⊛◌, ◌$◌, ◌∵◌, !, qed, by, move, keep, split, fsplit, fjoin, feq_l, suffices, use0}
-use types.Run.{no_more, and_then, returns, enter}
-use types.ByLocal.{alloc_all, pass_all, free_all, look_at, get, sets}
-use types.Part.{agg}
-use contract.Monad.{fact, fact_i}
-use contract.Running.{tables}
-use denote.Exit.{yes}
-use denote.RattleType.{RattleType, owns}
-use denote.Signature.{types_at, plain}
-use denote.RawPtr.{RawPtr, ptr_val, rawptr_Lawful}
-use denote.Steps.{nothing}
-use denote.Triple.Walked.{Stays, stay_dropped, walk_of}
-use Rattle.std.proofs.alloc.Calls.{Goes-blank, handle_tells}
+use Rattle.foreign_handles.proofs.Walking.{!, Goes-blank, List, None, Option, RattleType, RawPtr, SProp, Stays, Val, WpFn, [], agg, alloc_all, and_then}
+use Rattle.foreign_handles.proofs.Walking.{and_tt, by, emp, ent, enter, fact, fact_i, feq_l, fjoin, free_all, fsplit, ftrue, get, ghosts, handle_tells}
+use Rattle.foreign_handles.proofs.Walking.{has_ty, id⊢, keep, look_at, move, no_more, nothing, owns, pass_all, plain, proved_at, ptr_val, qed, raw}
+use Rattle.foreign_handles.proofs.Walking.{rawptr_Lawful, refl, returns, sets, split, stay_dropped, subst, suffices, sym, tables, ty_ptr, types_at, use0}
+use Rattle.foreign_handles.proofs.Walking.{vcons, vnil, vstruct, walk_of, yes, ‵, ◌$◌, ◌++◌, ◌∵◌, ◌∷◌, ◌≡◌, ◌⊛◌}
 use Rattle.std.proofs.alloc.Global.TheLaws as heap_laws
-use Rattle.std.proofs.raw_atomic.Walks.{proved_at, leaves}
-use Rattle.std.proofs.ResultValues.{and_tt}
+use Rattle.std.proofs.raw_atomic.Walks.{leaves}
 use Rattle.std.specs.contracts.alloc.Global as heap
-use Rattle.std.specs.contracts.impls.GlobalAllocator.TheImpl.{ghosts}
 use Rattle.foreign_handles.specs.contracts.held.Held as table
 use Rattle.foreign_handles.proofs.Words.{allocator, handle_of_none}
 use Rattle.foreign_handles.specs.contracts.handle.Handle.empty as f

@@ -1,33 +1,14 @@
 -- `lend` lends the table at its address, and the handle follows it.
-use Rattle.std.proofs.Common.{◌≡◌, ℕ, List, [], ◌∷◌, refl, sym}
-use Rattle.std.specs.Prelude.{Some, IsSome}
-use seplogic.Ra.Ura.{Ura}
-use base.Fraction.{full_share}
-use mir.Syntax.{Body, seq, assign, place, rv_opd, copy, return, named}
+use Rattle.foreign_handles.proofs.Walking.{!, Body, Env, Fml, GName, Goes-spent_ref, IsSome, List, Logic, MutRef, Part, Ptr, RattleType, Some, Stays, Ura}
+use Rattle.foreign_handles.proofs.Walking.{Val, [], addr, alloc_all, assign, at_ret, await, block_ptr, blocks, cell_at, copy, done, drop, emp, ends_at, ent}
+use Rattle.foreign_handles.proofs.Walking.{enter, env, exec, fact, fact_i, first, fjoin, fld, flft, follows, fpack, free_all, fsep, fsplit, fsplit3, ftrue}
+use Rattle.foreign_handles.proofs.Walking.{full_share, get, ghosts, group, heard, held, id⊢, join, keep, later, lends_Part, load, lone, look_at, look_in, mem}
+use Rattle.foreign_handles.proofs.Walking.{move, mut_Tells, mut_ref_to, mut_vals, named, no, nothing, of_opd, opens, owns, part_at, pass_all, pick, place}
+use Rattle.foreign_handles.proofs.Walking.{plain, proved, qed, raw, refl, return, returns, rewrite, rv_opd, sem, sep, seq, sets, sets_last, some, split}
+use Rattle.foreign_handles.proofs.Walking.{split3, stay_dropped, stop, sub, suffices, sym, tables, through, use0, use1, vptr, walk_of, whole, ‵, ℕ, ◌$◌, ◌∵◌}
+use Rattle.foreign_handles.proofs.Walking.{◌∷◌, ◌≡◌, ◌⊛◌}
 use mir.Raw.{raw as bare}
-use mir.Val.{Val, vptr}
-use base.Logic.{ent, sep, emp, id⊢}
-use base.Fml.{GName, Fml, flft, ftrue, fsep}
-use prog.Wp.{Env}
-use types.Logic.{Logic, sem}
-use types.Kit.{‵, raw, ◌⊛◌, some, later, at_ret, ◌$◌, ◌∵◌, !, qed, done, move, keep, drop, use0, use1, split, split3, join, group, pick, fsplit, fsplit3, fjoin, fpack, await, rewrite, suffices}
-use types.Part.{whole, sub, look_in}
-use types.Run.{stop, fld, addr, load, of_opd, first, blocks, exec, returns, enter}
-use types.ByLocal.{alloc_all, pass_all, free_all, look_at, get, through, sets, sets_last, env}
-use contract.Monad.{fact, fact_i}
-use contract.Running.{tables}
-use denote.Exit.{no}
-use denote.RattleType.{RattleType, owns}
-use denote.Memory.{mem, lone, part_at, part_of, cell_at}
-use denote.RawPtr.{Ptr, block_ptr}
-use denote.Ref.{MutRef, mut_vals, mut_Tells}
-use denote.Signature.{plain, mut_ref_to}
-use denote.Steps.{nothing, heard, opens}
-use denote.Follow.{follows, Part, lends_Part}
-use denote.Triple.Walked.{Stays, stay_dropped, Goes-spent_ref, walk_of, ends_at}
-use Rattle.std.proofs.raw_atomic.Walks.{proved}
-use Rattle.std.specs.contracts.impls.GlobalAllocator.TheImpl.{ghosts}
-use Rattle.pid_types.proofs.General.{held}
+use denote.Memory.{part_of}
 use Rattle.foreign_handles.proofs.Words.{alone, handle_opens, handle_closes}
 use Rattle.foreign_handles.specs.Lending.{with_held}
 use Rattle.foreign_handles.specs.contracts.held.Held as table

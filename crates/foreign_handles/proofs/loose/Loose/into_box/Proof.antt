@@ -1,36 +1,20 @@
 -- `into_box` makes the box again.
-use Rattle.std.proofs.Common.{◌≡◌, List, [], ◌∷◌, ◌++◌, refl, sym, subst}
-use mir.Syntax.{a_type, dcons, dnil}
-use mir.Val.{Val, vptr}
-use mir.MapTy.{inst_fn}
-use base.Logic.{SProp, ent, id⊢}
-use base.Fml.{ftrue, flft}
-use prog.Wp.{WpFn}
-use types.Kit.{‵, raw, ◌⊛◌, some, later, at_ret, ◌$◌, ◌∵◌, !, qed, by, move, keep, drop, split, split3, join, fsplit, fjoin, pick, suffices, use1, await, feq_i}
-use types.Run.{stop, fld, of_opd, no_more, and_then, first, blocks, exec, returns, enter}
-use types.ByLocal.{alloc_all, pass_all, free_all, look_at, get, get_in, sets, lands_last, env}
-use types.Part.{sub, whole}
-use contract.Monad.{fact}
+use Rattle.foreign_handles.proofs.Walking.{!, Goes-blank, List, RattleType, SProp, Stays, Val, WpFn, [], a_type, alloc_all, and_then, at_ret, await}
+use Rattle.foreign_handles.proofs.Walking.{block_ptr, blocks, bounded, by, dcons, dnil, drop, ent, enter, env, exec, fact, feq_i, first, fjoin, fld, flft}
+use Rattle.foreign_handles.proofs.Walking.{framed, free_all, fsplit, ftrue, get, get_in, id⊢, inst_fn, join, keep, later, look_at, move, no, no_more, nothing}
+use Rattle.foreign_handles.proofs.Walking.{of_opd, owns, param, param_laws, pass_all, pick, plain, proved_at, qed, raw, refl, returns, sets, some, split}
+use Rattle.foreign_handles.proofs.Walking.{split3, stay_dropped, stop, sub, subst, suffices, sym, tables, triple_of, types_at, use1, vptr, walk_of, whole, ‵}
+use Rattle.foreign_handles.proofs.Walking.{◌$◌, ◌++◌, ◌∵◌, ◌∷◌, ◌≡◌, ◌⊛◌}
+use types.ByLocal.{lands_last}
 use contract.BorrowLft.{◌⊑◌}
-use contract.Running.{tables}
-use denote.Exit.{no}
-use denote.RattleType.{RattleType, owns}
 use denote.Laws.{Is, shows}
-use denote.Signature.{types_at, plain}
-use denote.RawPtr.{block_ptr}
-use denote.Steps.{nothing, peeks}
-use denote.Param.{param, bounded}
-use denote.Param.Laws.{param_laws}
+use denote.Steps.{peeks}
 use denote.Triple.Clauses.{Lasts, lasts}
-use denote.Triple.Spec.{triple_of}
 use denote.Triple.Call.{calls_at_last}
-use denote.Triple.Table.{framed}
-use denote.Triple.Walked.{Stays, stay_dropped, walk_of}
 use Rattle.std.proofs.VecSteps.Shapes.{after}
-use Rattle.std.proofs.alloc.Calls.{Goes-blank}
 use Rattle.std.specs.contracts.boxed.Box as box
 use Rattle.std.proofs.boxed.Box.TheLaws as box_laws
-use Rattle.std.proofs.raw_atomic.Walks.{proved_at, leaves}
+use Rattle.std.proofs.raw_atomic.Walks.{leaves}
 use Rattle.foreign_handles.proofs.Words.{beside, beside_fits, Loose, loose_opens}
 use Rattle.std.specs.contracts.boxed.Box.from_raw as callee
 use Rattle.std.proofs.boxed.Box.from_raw.Met.{met}

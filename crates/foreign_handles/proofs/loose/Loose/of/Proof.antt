@@ -1,38 +1,23 @@
 -- `of` takes the box apart, and keeps its address and its allocator.
-use Rattle.std.proofs.Common.{◌≡◌, List, [], ◌∷◌, ◌++◌, refl, sym, ap, ◌∙◌, subst}
-use mir.Syntax.{a_type, dcons, dnil}
+use Rattle.foreign_handles.proofs.Walking.{!, Goes-blank, List, Ptr, RattleType, SProp, Stays, Val, WpFn, [], a_type, agg, alloc_all, and_then, await}
+use Rattle.foreign_handles.proofs.Walking.{block_ptr, bounded, box_owns, by, dcons, dnil, drop, emp, ent, enter, fact, fact_i, feq_l, fjoin, fld, flft, fpick}
+use Rattle.foreign_handles.proofs.Walking.{framed, free_all, fsep, fsplit, fst∗, ftrue, get, get_in, handle_tells, heard, id⊢, in_a_block, inst_fn, join}
+use Rattle.foreign_handles.proofs.Walking.{keep, later, layout, look_at, move, never, no, no_more, nothing, null_ptr, of_list, of_opd, owns, param}
+use Rattle.foreign_handles.proofs.Walking.{param_laws, pass_all, pick, plain, proved_at, ptr_val, qed, raw, refl, returns, rewrite, sem, sets, some, split}
+use Rattle.foreign_handles.proofs.Walking.{split3, stay_dropped, stop, sub, subst, suffices, sym, tables, triple_of, types_at, use0, use1, vstruct, walk_of}
+use Rattle.foreign_handles.proofs.Walking.{‵, ◌$◌, ◌++◌, ◌∵◌, ◌∷◌, ◌≡◌, ◌⊛◌}
+use Rattle.std.proofs.Common.{ap, ◌∙◌}
 use mir.Raw.{raw as bare}
-use mir.Val.{Val, vstruct, of_list}
-use mir.MapTy.{inst_fn}
-use base.Logic.{SProp, ent, emp, never, id⊢, fst∗}
-use base.Fml.{ftrue, fsep, flft}
-use prog.Wp.{WpFn}
-use types.Logic.{sem}
-use types.Kit.{‵, raw, ◌⊛◌, some, later, ◌$◌, ◌∵◌, !, qed, by, move, keep, drop, split, split3, join, fsplit, fjoin, fpick, pick, suffices, use0, use1, await, rewrite, feq_l}
-use types.Run.{stop, fld, of_opd, no_more, and_then, returns, enter}
-use types.ByLocal.{alloc_all, pass_all, free_all, look_at, get, get_in, sets, lands_as}
-use types.Part.{agg, sub, whole as whole-of}
-use contract.Monad.{fact, fact_i}
-use contract.Running.{tables}
-use denote.Exit.{no}
-use denote.RattleType.{RattleType, owns}
-use denote.Signature.{types_at, plain}
+use types.ByLocal.{lands_as}
+use types.Part.{whole as whole-of}
 use denote.Builtin.{RawPtr}
-use denote.RawPtr.{Ptr, block_ptr, null_ptr, ptr_val, in_a_block}
-use denote.Steps.{nothing, only, heard}
-use denote.Param.{param, layout, bounded}
-use denote.Param.Laws.{param_laws}
+use denote.Steps.{only}
 use denote.Struct.Tuple.{Tuple}
-use denote.Triple.Spec.{triple_of}
 use denote.Triple.Call.{calls_at}
-use denote.Triple.Walked.{Stays, stay_dropped, walk_of}
-use Rattle.std.proofs.alloc.Calls.{Goes-blank, handle_tells}
 use Rattle.std.proofs.cell.Inside.{one}
-use Rattle.std.specs.Box.Ownership.{box_owns}
 use Rattle.std.specs.contracts.boxed.Box as box
 use Rattle.std.proofs.boxed.Box.TheLaws as box_laws
-use Rattle.std.proofs.raw_atomic.Walks.{proved_at, leaves}
-use denote.Triple.Table.{framed}
+use Rattle.std.proofs.raw_atomic.Walks.{leaves}
 use Rattle.foreign_handles.proofs.Words.{beside, beside_fits, allocator, loose_closes}
 use Rattle.std.specs.contracts.boxed.Box.into_raw_with_allocator as callee
 use Rattle.std.proofs.boxed.Box.into_raw_with_allocator.Met.{met}

@@ -1,28 +1,12 @@
 -- `into_loose` gives the address with what is there.
-use Rattle.std.proofs.Common.{◌≡◌, List, [], ◌∷◌, ◌++◌, refl, sym, subst}
-use Rattle.std.specs.Prelude.{Some, IsSome}
-use mir.Val.{Val}
-use base.Logic.{SProp, ent, emp, id⊢}
-use base.Fml.{ftrue}
-use prog.Wp.{WpFn}
-use types.Kit.{‵, raw, ◌⊛◌, ◌$◌, ◌∵◌, !, qed, by, move, keep, split, fsplit, fjoin, suffices, use0}
-use types.Run.{stop, fld, of_opd, no_more, and_then, returns, enter}
-use types.ByLocal.{alloc_all, pass_all, free_all, look_at, get, get_in, sets}
-use types.Part.{agg, sub, whole}
-use contract.Monad.{fact, fact_i}
-use contract.Running.{tables}
-use denote.Exit.{yes}
-use denote.RattleType.{RattleType, owns}
-use denote.Signature.{types_at, plain}
-use denote.RawPtr.{block_ptr}
-use denote.Steps.{nothing, heard}
-use denote.Triple.Walked.{Stays, stay_dropped, walk_of}
-use Rattle.std.proofs.alloc.Calls.{Goes-blank, handle_tells}
+use Rattle.foreign_handles.proofs.Walking.{!, Goes-blank, IsSome, List, RattleType, SProp, Some, Stays, Val, WpFn, [], agg, alloc_all, and_then, block_ptr}
+use Rattle.foreign_handles.proofs.Walking.{by, emp, ent, enter, fact, fact_i, fjoin, fld, free_all, fsplit, ftrue, get, get_in, ghosts, handle_tells, heard}
+use Rattle.foreign_handles.proofs.Walking.{held, id⊢, keep, look_at, move, no_more, nothing, of_opd, owns, pass_all, plain, proved_at, qed, raw, refl}
+use Rattle.foreign_handles.proofs.Walking.{returns, sets, split, stay_dropped, stop, sub, subst, suffices, sym, tables, types_at, use0, walk_of, whole, yes}
+use Rattle.foreign_handles.proofs.Walking.{‵, ◌$◌, ◌++◌, ◌∵◌, ◌∷◌, ◌≡◌, ◌⊛◌}
 use Rattle.std.proofs.alloc.Global.TheLaws as heap_laws
-use Rattle.std.proofs.raw_atomic.Walks.{proved_at, leaves}
+use Rattle.std.proofs.raw_atomic.Walks.{leaves}
 use Rattle.std.specs.contracts.alloc.Global as heap
-use Rattle.std.specs.contracts.impls.GlobalAllocator.TheImpl.{ghosts}
-use Rattle.pid_types.proofs.General.{held}
 use Rattle.foreign_handles.specs.contracts.replica_handle.ReplicaHandle as handle
 use Rattle.replica.specs.contracts.host.Host as table
 use Rattle.foreign_handles.proofs.Words.{allocator, beside, beside_fits, loose_closes, alone}
