@@ -9,13 +9,11 @@ from pidtab.bounds import GREATEST_NUMBER, check_range
 from pidtab.faults import NotKept
 from pidtab.hold import Held
 from pidtab.native import check, state_of, unpack
+from pidtab.number_calls import BLOCK
 from pidtab.raw import AGAIN, DIFFERS, NO_HISTORY, PidtabCall, PidtabEntry, PidtabReply
 
 if TYPE_CHECKING:
     from pidtab.table import Table
-
-# How many entries are read in one go, while others wait.
-BLOCK = 1024
 
 
 class Counts(NamedTuple):

@@ -15,7 +15,7 @@ from pidtab.labels import Labelled
 from pidtab.native import GREATEST_PID, ROOT_INIT, Ask, AskableCalls, ToldCalls, Would, answer_of, fault_of, make_call, read_written
 from pidtab.raw import DIFFERS, DONE, FORKED, Answer, PidtabReply
 
-# How many calls are made in one go, while others wait.
+# How many calls are made in one go, and how many entries are read, while others wait.
 BLOCK = 1024
 
 T = TypeVar("T")

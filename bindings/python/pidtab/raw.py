@@ -78,7 +78,7 @@ class Pidtab(ctypes.Structure):
     at: int | None
     is_open: bool
     in_use: int
-    has_settings: bool
+    way: int
     workers: int
     seated: int
     keep: int
@@ -88,7 +88,7 @@ class Pidtab(ctypes.Structure):
         ("at", ctypes.c_void_p),
         ("is_open", ctypes.c_bool),
         ("in_use", ctypes.c_uint8),
-        ("has_settings", ctypes.c_bool),
+        ("way", ctypes.c_uint8),
         ("workers", ctypes.c_uint8),
         ("seated", ctypes.c_uint8),
         ("keep", ctypes.c_uint64),

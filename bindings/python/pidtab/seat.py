@@ -23,7 +23,7 @@ class Seat(NumberCalls):
     Threads may share a seat: each call is answered what that call is answered. Then `ordinal` is that of the seat's latest call, whichever
     thread has made it; a thread that wants its own takes a seat of its own.
 
-    `answers` makes up to 1024 calls on end in one go: no call of another thread comes between them.
+    `answers` makes up to 1024 recorded calls on end in one go: no call of another thread comes between them.
 
     An interrupt, as by Ctrl-C, never breaks a call: it was made or not begun. Where it was made and its answer lost, `ordinal` has moved, and
     `table.entry(seat.ordinal)` has the answer.
@@ -92,6 +92,9 @@ class Seat(NumberCalls):
 
     def _call(self, call: bytes, reply: PidtabReply) -> int:
         return self.table._bounded("pidtab_call_by", self.worker, call, reply, self._ordinal)
+
+    def _line(self, *given: object) -> int:
+        return self.table._bounded("pidtab_line_by", self.worker, *given, self._ordinal)
 
     def _made(self, name: str, *given: object, told: tuple[object, ...] = ()) -> int:
         return self.table._bounded(f"pidtab_{name}_by", self.worker, *given, self._ordinal, *told)

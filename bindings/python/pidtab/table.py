@@ -171,8 +171,10 @@ class Table(Saving, Waiting, NumberCalls):
         """Has the table."""
         self._settled = settings
         self.pid_max, self.keep, self.workers, self.threads, self.first_stamp = settings
-        self._saving, self._labels, self._watch = threading.RLock(), Labels(), Watch()
-        if not self.threads:
+        self._saving, self._labels = threading.RLock(), Labels()
+        if self.threads:
+            self._watch = Watch()
+        else:
             # With no function of Python around it, since each call goes through here. The interpreter's lock is kept, so no close comes amid it.
             self._call = partial(hold.functions.pidtab_call, hold.at)  # type: ignore[assignment]
             self._line = partial(hold.functions.pidtab_line, hold.at)  # type: ignore[assignment]

@@ -12,7 +12,7 @@ from pidtab.watch import Watch
 
 
 def end_waits(held: "weakref.ref[Hold]", process: int) -> None:
-    """Ends the waits at a table that nobody has any more but a thread that waits for nobody, and not in a forked child."""
+    """Ends the waits at a table that nobody has any more except a thread that waits for nobody, and not in a forked child."""
     hold = held()
     if hold is not None and os.getpid() == process:
         hold.functions.pidtab_end(hold.at)

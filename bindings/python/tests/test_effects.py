@@ -335,7 +335,7 @@ class Rooms(unittest.TestCase):
     def table(self, **functions: object) -> Table:
         """A table of functions in the place of the library's."""
         done = mock.Mock(return_value=DONE)
-        table = open_stand_in(SimpleNamespace(pidtab_open=done, pidtab_close=done, pidtab_call=done, **functions))
+        table = open_stand_in(SimpleNamespace(pidtab_open=done, pidtab_close=done, pidtab_call=done, pidtab_line=done, **functions))
         self.addCleanup(table.close)
         return table
 
