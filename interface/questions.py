@@ -41,16 +41,11 @@ def shown(row):
     return [it for it in arguments_of(row) if it.name != "from"]
 
 
-def with_function(tables, owner=""):
-    """The questions, each with its function of C."""
-    return [] if owner else [(row, row.exports) for row in tables["questions"]]
-
-
-def by_function(tables, owner=""):
+def by_function(tables):
     """The functions of C, each with its questions."""
     found = {}
-    for row, name in with_function(tables, owner):
-        found.setdefault(name, []).append(row)
+    for row in tables["questions"]:
+        found.setdefault(row.exports, []).append(row)
     return found
 
 

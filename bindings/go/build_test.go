@@ -73,10 +73,10 @@ import (
 )
 
 func main() {
-	_, table := pidtab.Open(32768)
-	_, shared := pidtab.OpenShared(pidtab.Settings{PidMax: 32768, Workers: 1})
+	_, table := pidtab.Open(pidtab.Settings{})
+	_, loaded := pidtab.FromDump("", pidtab.Settings{})
 	_, replica := pidtab.OpenReplica(32768, pidtab.Model)
-	for _, err := range []error{table, shared, replica} {
+	for _, err := range []error{table, loaded, replica} {
 		fmt.Println(err)
 	}
 }

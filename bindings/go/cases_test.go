@@ -16,7 +16,7 @@ import (
 type caseWorld struct {
 	*testing.T
 	tables  []*Table
-	shared  *Shared
+	kept    *Table
 	seats   []*Seat
 	at      int
 	told    Reply // the latest
@@ -38,57 +38,57 @@ func (it *caseWorld) same(found, wanted any) {
 }
 
 // begin takes all seats, and there is no other.
-func (it *caseWorld) begin(shared *Shared, tables []*Table) {
-	it.shared, it.tables, it.seats, it.at = shared, tables, nil, 0
-	it.Cleanup(shared.Close)
-	for i := uint32(0); i < shared.Settings().Workers; i++ {
-		it.seats = append(it.seats, seatOf(it.T, shared))
+func (it *caseWorld) begin(kept *Table, tables []*Table) {
+	it.kept, it.tables, it.seats, it.at = kept, tables, nil, 0
+	it.Cleanup(kept.Close)
+	for i := uint32(0); i < kept.Settings().Workers; i++ {
+		it.seats = append(it.seats, seatOf(it.T, kept))
 		it.same(it.seats[i].Worker(), i)
 	}
-	_, err := shared.Seat()
+	_, err := kept.Seat()
 	it.same(err, ErrNoSeat)
 }
 
 func (it *caseWorld) open(settings Settings) error {
-	shared, err := OpenShared(settings)
-	isAlone := settings.Workers == 1 && settings.FirstStamp == 1 && settings.Keep == 0
+	kept, err := Open(settings)
+	isAlone := settings.Workers == 1 && settings.FirstStamp == 1 && settings.Keep == KeepAll
 	var tables []*Table
 	for i := 0; i < 3 && isAlone; i++ {
-		table, fault := Open(settings.PidMax)
+		table, fault := Open(Settings{PidMax: settings.PidMax})
 		it.same(status(fault), status(err))
 		tables = append(tables, table)
 	}
 	if err != nil {
 		return err
 	}
-	it.begin(shared, tables)
+	it.begin(kept, tables)
 	it.isWhole = settings.FirstStamp == 1
 	return nil
 }
 
 func (it *caseWorld) load(text string, counts []uint64, keep uint64) error {
-	shared, err := SharedFromDump(text, counts, keep)
+	kept, err := FromDump(text, Settings{Keep: keep}, counts...)
 	var tables []*Table
-	for i := 0; i < 3 && len(counts) == 1 && counts[0]+keep == 0; i++ {
-		table, fault := FromDump(text)
+	for i := 0; i < 3 && len(counts) == 1 && counts[0] == 0 && keep == KeepAll; i++ {
+		table, fault := FromDump(text, Settings{})
 		it.same(status(fault), status(err))
 		tables = append(tables, table)
 	}
 	if err != nil {
 		return err
 	}
-	it.begin(shared, tables)
+	it.begin(kept, tables)
 	it.isWhole = false
 	return nil
 }
 
 // reload goes on with what is made of the texts.
 func (it *caseWorld) reload() {
-	text, err := it.shared.Dump()
+	text, err := it.kept.Dump()
 	it.check(err)
 	var counts []uint64
 	for i := range it.seats {
-		count, err := it.shared.Worker(uint32(i))
+		count, err := it.kept.Worker(uint32(i))
 		it.check(err)
 		counts = append(counts, count)
 	}
@@ -98,9 +98,9 @@ func (it *caseWorld) reload() {
 		it.same(told{again, err}, told{text, nil})
 		tables[i] = fromDump(it.T, again)
 	}
-	it.check(it.load(text, counts, it.shared.Settings().Keep))
+	it.check(it.load(text, counts, it.kept.Settings().Keep))
 	it.tables, it.at = tables, at
-	it.same(of(it.shared.Dump()), told{text, nil})
+	it.same(of(it.kept.Dump()), told{text, nil})
 }
 
 // call is the answer to the line, which is the same by each way.
@@ -114,7 +114,7 @@ func (it *caseWorld) call(line string) string {
 		return status(err)
 	}
 	ordinal, _ := seat.Ordinal()
-	entry, err := it.shared.Entry(ordinal)
+	entry, err := it.kept.Entry(ordinal)
 	it.check(err)
 	it.told = entry.Reply
 	it.same(of(entry.Call.Line()), told{line, nil})
@@ -132,7 +132,7 @@ func (it *caseWorld) call(line string) string {
 			asked = told{entry.Reply, nil}
 		}
 	}
-	it.same(of(it.shared.Ask(entry.Call)), asked)
+	it.same(of(it.kept.Ask(entry.Call)), asked)
 	if len(it.tables) > 0 {
 		it.same(of(it.tables[1].Ask(entry.Call)), asked)
 		it.same(of(it.tables[1].Would(entry.Call)), told{entry.Reply, nil})
@@ -145,10 +145,10 @@ func (it *caseWorld) call(line string) string {
 
 // callOn is the call on a line, by the entry of another table.
 func (it *caseWorld) callOn(line string) Call {
-	shared := openShared(it.T, Settings{PidMax: 32768, Workers: 1})
-	_, err := seatOf(it.T, shared).Line(line)
+	kept := open(it.T, withHistory(1))
+	_, err := seatOf(it.T, kept).Line(line)
 	it.check(err)
-	entry, err := shared.Entry(0)
+	entry, err := kept.Entry(0)
 	it.check(err)
 	return entry.Call
 }
@@ -159,7 +159,7 @@ func (it *caseWorld) callTold(line string) string {
 	reply, effects, err := seat.Told(call)
 	it.check(err)
 	ordinal, _ := seat.Ordinal()
-	it.same(of(it.shared.Entry(ordinal)), told{Entry{ordinal, uint32(it.at), call, reply}, nil})
+	it.same(of(it.kept.Entry(ordinal)), told{Entry{ordinal, uint32(it.at), call, reply}, nil})
 	for _, table := range it.tables {
 		other, others, err := table.Told(call)
 		it.same([]any{other, others, err}, []any{reply, effects, nil})
@@ -301,6 +301,7 @@ var statusNames = map[error]string{
 	ErrNotKept:    "NOT_KEPT",
 	ErrAgain:      "AGAIN",
 	ErrNoHistory:  "NO_HISTORY",
+	ErrNoThreads:  "NO_THREADS",
 }
 
 var queryWords = []string{"getpid", "nspid", "getppid", "count", "getpgid", "getsid", "next"}
@@ -344,7 +345,7 @@ func sayReply(reply Reply) string {
 
 // question is what a question tells, which is the same of each table; not one where the step is no question.
 func (it *caseWorld) question(word string, numbers []uint64) (string, bool) {
-	found, isOne := byQuestion(it.shared, word, numbers)
+	found, isOne := byQuestion(it.kept, word, numbers)
 	if !isOne {
 		return "", false
 	}
@@ -452,27 +453,27 @@ func byQuestion(it questions, word string, n []uint64) (told, bool) {
 func (it *caseWorld) read(word string, numbers []uint64) (found string, err error) {
 	switch word {
 	case "counts":
-		counts, err := it.shared.Counts()
+		counts, err := it.kept.Counts()
 		return fmt.Sprint(counts.FirstKept, " ", counts.Recorded), err
 	case "worker":
-		calls, err := it.shared.Worker(uint32(numbers[0]))
+		calls, err := it.kept.Worker(uint32(numbers[0]))
 		return fmt.Sprint(calls), err
 	case "entry":
-		entry, err := it.shared.Entry(numbers[0])
+		entry, err := it.kept.Entry(numbers[0])
 		line, _ := entry.Call.Line()
 		return fmt.Sprintf("%d %s: %s", entry.Worker, line, sayReply(entry.Reply)), err
 	case "read":
-		entries, err := it.shared.Entries(numbers[0], int(numbers[1]))
+		entries, err := it.kept.Entries(numbers[0], int(numbers[1]))
 		return fmt.Sprint(len(entries)), err
 	case "checkpoint":
-		return "DONE", it.shared.Checkpoint()
+		return "DONE", it.kept.Checkpoint()
 	}
-	return "DONE", it.shared.CheckpointAt(numbers[0])
+	return "DONE", it.kept.CheckpointAt(numbers[0])
 }
 
 // sameText compares the text of the name with the one below the step.
 func (it *caseWorld) sameText(word, text string) {
-	texts := map[string]func() (string, error){"list": it.shared.List, "dump": it.shared.Dump, "opening": it.shared.Opening}
+	texts := map[string]func() (string, error){"list": it.kept.List, "dump": it.kept.Dump, "opening": it.kept.Opening}
 	it.same(of(texts[word]()), told{text, nil})
 	for _, table := range it.tables {
 		if texts := map[string]func() (string, error){"list": table.List, "dump": table.Dump}; texts[word] != nil {
@@ -484,10 +485,10 @@ func (it *caseWorld) sameText(word, text string) {
 // replay makes the history on a second table: the same replies, counts and list; or it stops at an entry with another reply, or of a worker that is
 // none.
 func (it *caseWorld) replay(change string, place uint64) {
-	saved, err := it.shared.Entries(0, 1<<20)
+	saved, err := it.kept.Entries(0, 1<<20)
 	it.check(err)
-	settings := it.shared.Settings()
-	again := openShared(it.T, Settings{PidMax: settings.PidMax, Workers: settings.Workers, FirstStamp: 1})
+	settings := it.kept.Settings()
+	again := open(it.T, Settings{PidMax: settings.PidMax, Workers: settings.Workers, Keep: KeepAll})
 	recorded := uint64(len(saved))
 	switch change {
 	case "differs":
@@ -500,7 +501,7 @@ func (it *caseWorld) replay(change string, place uint64) {
 		recorded = place
 	default:
 		it.same(again.Replay(saved), nil)
-		list, err := it.shared.List()
+		list, err := it.kept.List()
 		it.same(of(again.List()), told{list, err})
 	}
 	it.same(of(again.Counts()), told{Counts{0, recorded}, nil})
@@ -512,7 +513,7 @@ func (it *caseWorld) damage(text string) {
 		bytes := []byte(text)
 		bytes[place] ^= 1
 		for _, wrong := range []string{text[:place], string(bytes)} {
-			if _, err := FromDump(wrong); err == nil {
+			if _, err := FromDump(wrong, Settings{}); err == nil {
 				it.Fatal(place)
 			}
 		}
@@ -530,7 +531,7 @@ func lineOf(numbers []string) (string, error) {
 // end is the end of a case.
 func (it *caseWorld) end() {
 	if it.isWhole {
-		if counts, err := it.shared.Counts(); err == nil && counts.FirstKept == 0 {
+		if counts, err := it.kept.Counts(); err == nil && counts.FirstKept == 0 {
 			it.replay("", 0)
 		}
 	}
@@ -551,13 +552,17 @@ func (it *caseWorld) step(step, text string) (found string, err error) {
 		it.end()
 	case "open":
 		it.end()
-		if numbers[2] == 0 {
-			// In Go this is no fault: a first stamp that is not given is 1.
+		if numbers[0] == 0 || numbers[1] == 0 || numbers[2] == 0 {
+			// In Go this is no fault: it is what is not given.
 			return "OUT_OF_RANGE", nil
 		}
-		return "", it.open(Settings{uint32(numbers[0]), uint32(numbers[1]), numbers[2], numbers[3]})
+		settings := Settings{PidMax: uint32(numbers[0]), Workers: uint32(numbers[1]), FirstStamp: numbers[2], Keep: numbers[3]}
+		if settings.Keep == 0 {
+			settings.Keep = KeepAll
+		}
+		return "", it.open(settings)
 	case "load":
-		return "", it.load(text, numbers, 0)
+		return "", it.load(text, numbers, KeepAll)
 	case "reload":
 		it.reload()
 	case "seat":

@@ -53,7 +53,7 @@ func TestConnected(t *testing.T) {
 	if err != nil {
 		t.Fatal(err)
 	}
-	table, err := Open(400)
+	table, err := Open(Settings{PidMax: 400})
 	if err != nil {
 		t.Fatal(err)
 	}

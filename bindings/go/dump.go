@@ -6,7 +6,6 @@ import "C"
 import (
 	"errors"
 	"fmt"
-	"runtime"
 	"strconv"
 	"strings"
 	"unsafe"
@@ -64,77 +63,64 @@ func withByte(text string) []byte {
 	return append([]byte(text), '\n')
 }
 
-// FromDump makes a table as a text of Dump says: each later call has the answer that it would have had there. Any text may be given; a TextError
-// says why one is that of no table. It costs some ten times what the forks cost that made the tasks. ErrNoMemory.
-func FromDump(text string) (*Table, error) {
-	if err := compareVersions(); err != nil {
-		return nil, err
-	}
-	held, fault, bytes := new(heldTable), new(C.struct_pidtab_fault), withByte(text)
-	status := C.pidtab_load(&held.raw, unsafe.Pointer(&bytes[0]), C.size_t(len(text)), fault)
-	if err := textFaultOf(status, fault); err != nil {
-		return nil, err
-	}
-	runtime.SetFinalizer(held, (*heldTable).close)
-	return &Table{calls{held}, held}, nil
-}
-
-// Dump is all that there is to know of the table, as text: docs/SCRIPT.md has the form. One table has one text, on every machine. It costs a copy
-// of the whole table, and two where it is longer than 4,096 bytes. ErrClosed, ErrNoMemory, ErrBusy.
-func (table *Table) Dump() (string, error) {
-	held := table.held()
-	held.lock.RLock()
-	defer held.lock.RUnlock()
-	return wholeText(func(room unsafe.Pointer, most C.size_t, size *C.size_t) C.uint32_t {
-		return C.pidtab_dump(&held.raw, room, most, size)
-	})
-}
-
-// SharedFromDump makes a table as a text of Dump says, with a history that begins there: each later call has the answer, and the stamp, that it
-// would have had there. Any text may be given; a TextError says why one is that of no table. No seat is given.
+// FromDump makes a table as a text of Dump says: each later call has the answer, and the stamp, that it would have had there. Any text may be given; a
+// TextError says why one is that of no table. PidMax and FirstStamp of the settings are not looked at. It costs some ten times what the forks cost that made
+// the tasks, with a history twice that.
 //
-// counts has how many calls of each of 1 to 16 workers were recorded before; their sum is the ordinal of the next call. Zeroes begin to count anew.
-// The text has no workers: who dumps a Shared asks Worker of each, while no call is made. keep is as Settings.Keep.
+// A history begins with the text. counts has how many calls of each worker were recorded before; their sum is the ordinal of the next call. None are zeroes.
+// The text has no workers: who dumps a table asks Worker of each, while no call is made. Such a history is saved to no writer, as the calls before are not
+// there: Save answers ErrNotKept.
 //
-// Its calls are saved to no writer, as those before them are not there: Save answers ErrNotKept.
-//
-// ErrOutOfRange for another number of workers, and where the counts add up to the stamp of the text or more; ErrNoMemory.
-func SharedFromDump(text string, counts []uint64, keep uint64) (*Shared, error) {
-	if err := compareVersions(); err != nil {
+// ErrOutOfRange for Workers outside their range, for counts of another number of workers, and where they add up to the stamp of the text or more; ErrNoMemory.
+func FromDump(text string, settings Settings, counts ...uint64) (*Table, error) {
+	if settings.Workers == 0 {
+		settings.Workers = uint32(len(counts))
+	}
+	settings = settings.filled()
+	if err := settings.countsFault(counts); err != nil {
 		return nil, err
 	}
-	if err := workersRange("len(counts)", len(counts)); err != nil {
-		return nil, err
-	}
-	numbers, before := make([]C.uint64_t, len(counts)), uint64(0)
+	recorded, before := make([]C.uint64_t, settings.Workers), uint64(0)
 	for i, count := range counts {
-		numbers[i] = C.uint64_t(count)
+		recorded[i] = C.uint64_t(count)
 		before += count
 	}
-	held, fault, bytes := newRecord(), new(C.struct_pidtab_fault), withByte(text)
-	held.goesOn = true
-	at, workers := &numbers[0], C.size_t(len(numbers))
-	status := C.pidtab_record_load(held.raw, unsafe.Pointer(&bytes[0]), C.size_t(len(text)), at, workers, fault)
-	if status == C.PIDTAB_OUT_OF_RANGE {
-		return nil, RangeError{"the sum of counts", fmt.Sprint(before), "less than the stamp of the text"}
-	}
-	if err := textFaultOf(status, fault); err != nil {
+	numbers, fault, bytes := settings.numbers(), new(C.struct_pidtab_fault), withByte(text)
+	table, err := openBy(settings, func(held *heldTable) error {
+		status := C.pidtab_load_with(&held.raw, unsafe.Pointer(&bytes[0]), C.size_t(len(text)), &numbers, &recorded[0], fault)
+		if status == C.PIDTAB_OUT_OF_RANGE {
+			return RangeError{"the sum of counts", fmt.Sprint(before), "less than the stamp of the text"}
+		}
+		return textFaultOf(status, fault)
+	})
+	if err != nil {
 		return nil, err
 	}
-	runtime.SetFinalizer(held, (*heldRecord).close)
 	pidMax, stamp := headOf(text)
-	held.settings = Settings{PidMax: pidMax, Workers: uint32(len(counts)), FirstStamp: stamp - before, Keep: keep}
-	return &Shared{held}, nil
+	held := table.held()
+	held.settings.PidMax, held.settings.FirstStamp, held.goesOn = pidMax, stamp-before, true
+	return table, nil
 }
 
-// Dump is all that there is to know of the present table, as text, without its history: docs/SCRIPT.md has the form. It costs as a list does.
-// ErrNoMemory.
-func (shared *Shared) Dump() (string, error) {
-	held := shared.held()
-	held.lock.RLock()
-	defer held.lock.RUnlock()
-	return wholeText(func(room unsafe.Pointer, most C.size_t, size *C.size_t) C.uint32_t {
-		return C.pidtab_record_dump(held.raw, room, most, size)
+// countsFault is why no table that a text makes has the settings and these counts; nothing where one has them.
+func (settings Settings) countsFault(counts []uint64) error {
+	if len(counts) > 0 && settings.Keep == 0 {
+		return RangeError{"len(counts)", fmt.Sprint(len(counts)), "0: counts are of a history: open it with keep"}
+	}
+	if err := settings.workersFault(); err != nil {
+		return err
+	}
+	if len(counts) > 0 && len(counts) != int(settings.Workers) {
+		return RangeError{"len(counts)", fmt.Sprint(len(counts)), fmt.Sprintf("%d, as Settings.Workers", settings.Workers)}
+	}
+	return nil
+}
+
+// Dump is all that there is to know of the table, as text, without its history: docs/SCRIPT.md has the form. One table has one text, on every machine. It
+// costs a copy of the whole table, and two where it is longer than 4,096 bytes. ErrNoMemory.
+func (table *Table) Dump() (string, error) {
+	return table.text(func(held *heldTable, room unsafe.Pointer, most C.size_t, size *C.size_t) C.uint32_t {
+		return C.pidtab_dump(&held.raw, room, most, size)
 	})
 }
 

@@ -20,7 +20,7 @@ end sha256 43e4b011666adfc0327747421276975e151ed4aaf6d8c75e33dcc6843cccb951
 
 func fromDump(t *testing.T, text string) *Table {
 	t.Helper()
-	table, err := FromDump(text)
+	table, err := FromDump(text, Settings{})
 	if err != nil {
 		t.Fatal(err)
 	}
@@ -28,14 +28,15 @@ func fromDump(t *testing.T, text string) *Table {
 	return table
 }
 
-func sharedFromDump(t *testing.T, counts []uint64, keep uint64) *Shared {
+// keptFromDump is a table that keeps the history after the text.
+func keptFromDump(t *testing.T, keep uint64, counts ...uint64) *Table {
 	t.Helper()
-	shared, err := SharedFromDump(dumpText, counts, keep)
+	table, err := FromDump(dumpText, Settings{Keep: keep}, counts...)
 	if err != nil {
 		t.Fatal(err)
 	}
-	t.Cleanup(shared.Close)
-	return shared
+	t.Cleanup(table.Close)
+	return table
 }
 
 // randomCall is a line with small numbers, so that most calls name what is there.
@@ -50,7 +51,7 @@ func randomCall(chance *rand.Rand) string {
 func TestCallsBehindAText(t *testing.T) {
 	chance := rand.New(rand.NewSource(40))
 	for round := 0; round < 10; round++ {
-		table := open(t, 301)
+		table := open(t, Settings{PidMax: 301})
 		for i := 0; i < 300; i++ {
 			table.Line(randomCall(chance))
 		}
@@ -70,9 +71,9 @@ func TestCallsBehindAText(t *testing.T) {
 }
 
 func TestATableOfATextIsSavedToNoWriter(t *testing.T) {
-	for _, counts := range [][]uint64{{0}, {6}} {
+	for _, counts := range [][]uint64{nil, {0}, {6}} {
 		var bytes strings.Builder
-		err := sharedFromDump(t, counts, 0).Save(&bytes, new(Saved))
+		err := keptFromDump(t, KeepAll, counts...).Save(&bytes, new(Saved))
 		if !errors.Is(err, ErrNotKept) || bytes.Len() != 0 {
 			t.Errorf("%v, %q", err, bytes.String())
 		}
@@ -80,12 +81,12 @@ func TestATableOfATextIsSavedToNoWriter(t *testing.T) {
 }
 
 func TestATableOfATextCutsWhatItHas(t *testing.T) {
-	shared := sharedFromDump(t, []uint64{0}, 2)
-	seat := seatOf(t, shared)
+	table := keptFromDump(t, 2, 0)
+	seat := seatOf(t, table)
 	for i := 0; i < 5; i++ {
 		want(t, "getpid", of(seat.Getpid(1)), uint32(1), nil)
 	}
-	wantCounts(t, shared, 3, 5)
+	wantCounts(t, table, 3, 5)
 }
 
 func TestAClosedTableHasNoText(t *testing.T) {
@@ -94,9 +95,9 @@ func TestAClosedTableHasNoText(t *testing.T) {
 	if _, err := table.Dump(); err != ErrClosed {
 		t.Error(err)
 	}
-	shared := sharedFromDump(t, []uint64{0}, 0)
-	shared.Close()
-	if _, err := shared.Dump(); err != ErrClosed {
+	kept := keptFromDump(t, KeepAll)
+	kept.Close()
+	if _, err := kept.Dump(); err != ErrClosed {
 		t.Error(err)
 	}
 	if _, err := new(Table).Dump(); err != ErrClosed {
@@ -105,10 +106,10 @@ func TestAClosedTableHasNoText(t *testing.T) {
 }
 
 func TestNilWhereSomethingIsNeeded(t *testing.T) {
-	shared := openShared(t, Settings{PidMax: 32768, Workers: 1})
-	_, _, loaded := LoadShared(nil, 0)
-	_, _, resumed := ResumeShared(nil, Settings{PidMax: 32768, Workers: 1})
-	for _, err := range []error{shared.Save(nil, new(Saved)), shared.Save(new(strings.Builder), nil), loaded, resumed} {
+	table := open(t, withHistory(1))
+	_, _, loaded := Load(nil, withHistory(1))
+	_, _, resumed := Resume(nil, withHistory(1))
+	for _, err := range []error{table.Save(nil, new(Saved)), table.Save(new(strings.Builder), nil), loaded, resumed} {
 		if !errors.Is(err, ErrNil) {
 			t.Error(err)
 		}

@@ -64,8 +64,8 @@ func isNotMade(t *testing.T, it teller, call Call, wanted error) {
 
 // 2 is the init of the namespace 1, in which are its child 3 and the children 4 and 5 of that. 5 is the init of 4 within.
 func TestWhatCallsDoToTasks(t *testing.T) {
-	table, shared := open(t, 32768), openShared(t, Settings{PidMax: 32768, Workers: 1})
-	seat := seatOf(t, shared)
+	table, kept := open(t, Settings{}), open(t, withHistory(1))
+	seat := seatOf(t, kept)
 	for _, it := range []teller{table, seat} {
 		play(t, it, "fork 1 new", "fork 2", "fork 3", "fork 3 new")
 		isTold(t, it, exitOf(4, 255), ended(4, 255))
@@ -86,9 +86,9 @@ func TestWhatCallsDoToTasks(t *testing.T) {
 	if ordinal, made := seat.Ordinal(); ordinal != 9 || !made {
 		t.Error(ordinal, made)
 	}
-	want(t, "an entry", of(shared.Entry(8)), Entry{8, 0, exitOf(1, 0), refusedBy(t, table, exitOf(1, 0))}, nil)
+	want(t, "an entry", of(kept.Entry(8)), Entry{8, 0, exitOf(1, 0), refusedBy(t, table, exitOf(1, 0))}, nil)
 	table.Close()
-	shared.Close()
+	kept.Close()
 	for _, it := range []teller{table, seat, new(Table), new(Seat)} {
 		isNotMade(t, it, exitOf(6, 0), ErrClosed)
 	}
@@ -96,8 +96,8 @@ func TestWhatCallsDoToTasks(t *testing.T) {
 
 // 2 leads a session, of which are its children 3 and 4, and 4 leads a group. A zombie is a member until it is reaped.
 func TestWhatCallsDoToGroupsAndSessions(t *testing.T) {
-	table, shared := open(t, 32768), openShared(t, Settings{PidMax: 32768, Workers: 1})
-	for _, it := range []teller{table, seatOf(t, shared)} {
+	table, kept := open(t, Settings{}), open(t, withHistory(1))
+	for _, it := range []teller{table, seatOf(t, kept)} {
 		play(t, it, "fork 1", "setsid 2", "fork 2", "fork 2", "setpgid 2 4 4")
 		isTold(t, it, setpgidOf(2, 3, 0))
 		isTold(t, it, setpgidOf(2, 3, 2), groupGone(3))
@@ -111,8 +111,8 @@ func TestWhatCallsDoToGroupsAndSessions(t *testing.T) {
 
 // 3 is the init of the namespace 2, and 2 is in its group, whose number keeps the namespace.
 func TestAGroupKeepsANamespace(t *testing.T) {
-	table, shared := open(t, 32768), openShared(t, Settings{PidMax: 32768, Workers: 1})
-	for _, it := range []teller{table, seatOf(t, shared)} {
+	table, kept := open(t, Settings{}), open(t, withHistory(1))
+	for _, it := range []teller{table, seatOf(t, kept)} {
 		play(t, it, "fork 1", "fork 2 new", "setpgid 2 3 0", "setpgid 2 0 3")
 		isTold(t, it, exitOf(3, 0), ended(3, 0), spaceFell(2))
 		isTold(t, it, waitOf(2, 3), gone(3))
@@ -137,7 +137,7 @@ func refusedBy(t *testing.T, table *Table, call Call) Reply {
 func TestMoreEffectsThanThereIsRoomForAtFirst(t *testing.T) {
 	// Of each task there may be two effects, and one of their group and of their session.
 	for _, count := range []int{shortRoom/2 - 3, shortRoom/2 - 2, shortRoom/2 - 1, 5 * shortRoom} {
-		table, wanted := open(t, 32768), []Effect{ended(2, 7)}
+		table, wanted := open(t, Settings{}), []Effect{ended(2, 7)}
 		play(t, table, "fork 1")
 		for i := 0; i < count; i++ {
 			play(t, table, "fork 2")
@@ -149,23 +149,23 @@ func TestMoreEffectsThanThereIsRoomForAtFirst(t *testing.T) {
 
 // As in a forked child, where the thread whose call was under way is not.
 func TestACallThatTellsAndDoesNotEnd(t *testing.T) {
-	table := open(t, 32768)
-	table.own.raw.in_use = 255
+	table := open(t, Settings{})
+	table.held().raw.in_use = 255
 	isNotMade(t, table, exitOf(2, 0), ErrBusy)
-	table.own.raw.in_use = 0
+	table.held().raw.in_use = 0
 	isTold(t, table, forkOf(1))
 }
 
 func TestALabelGoesByAForkThatTells(t *testing.T) {
-	table, shared := open(t, 301), openShared(t, Settings{PidMax: 301, Workers: 1})
-	seat := seatOf(t, shared)
+	table, kept := open(t, Settings{PidMax: 301}), open(t, Settings{PidMax: 301, Keep: KeepAll, Threads: true})
+	seat := seatOf(t, kept)
 	for _, it := range []struct {
 		teller
 		listed interface {
 			Label(task uint32, text string) error
 			Listing() (Listing, error)
 		}
-	}{{table, table}, {seat, shared}} {
+	}{{table, table}, {seat, kept}} {
 		for i := 2; i <= 300; i++ {
 			play(t, it, "fork 1")
 		}
@@ -183,14 +183,14 @@ func TestALabelGoesByAForkThatTells(t *testing.T) {
 // Goroutines fork children of a task that ends: each child that was made has another parent after it.
 func TestNoEffectIsLostBesideForks(t *testing.T) {
 	const workers, enough = 3, 100
-	shared := openShared(t, Settings{PidMax: 5000, Workers: workers + 1})
-	seat := seatOf(t, shared)
+	table := open(t, Settings{PidMax: 5000, Workers: workers + 1, Keep: KeepAll, Threads: true})
+	seat := seatOf(t, table)
 	play(t, seat, "fork 1")
 	var lock sync.Mutex
 	var all sync.WaitGroup
 	var children []int
 	for range [workers]int{} {
-		worker := seatOf(t, shared)
+		worker := seatOf(t, table)
 		all.Add(1)
 		go func() {
 			defer all.Done()
@@ -205,7 +205,7 @@ func TestNoEffectIsLostBesideForks(t *testing.T) {
 			}
 		}()
 	}
-	for counts, err := shared.Counts(); err == nil && counts.Recorded < enough; counts, err = shared.Counts() {
+	for counts, err := table.Counts(); err == nil && counts.Recorded < enough; counts, err = table.Counts() {
 		runtime.Gosched()
 	}
 	_, effects, err := seat.Told(exitOf(2, 3))

@@ -55,7 +55,7 @@ func TestEachRefusalHasAnError(t *testing.T) {
 
 // By their names, as calls meet them.
 func TestErrorsByWord(t *testing.T) {
-	table := open(t, 32768)
+	table := open(t, Settings{})
 	play(t, table, "fork 1", "mk 0", "limit 2 0")
 	for wanted, err := range map[error]error{
 		ErrNoCaller:    table.Exec(99),
@@ -76,16 +76,16 @@ func TestErrorsByWord(t *testing.T) {
 
 // A refusal names what was asked: the line of a call, or the name and the numbers of what is no call.
 func TestARefusalNamesItsCall(t *testing.T) {
-	table := open(t, 32768)
-	shared := openShared(t, Settings{PidMax: 32768, Workers: 1})
+	table := open(t, Settings{})
+	kept := open(t, withHistory(1))
 	for wanted, err := range map[string]error{
 		"fork 99 new":              of(table.Fork(99, NewNamespace)).err,
 		"wait 1 pid 7":             of(table.Wait(1, Pid(7))).err,
 		"setpgid 1 -1 -2147483648": table.Setpgid(1, -1, math.MinInt32),
 		"limit 7 max":              table.LimitMax(7),
 		"stat 1 99":                of(table.Stat(1, 99)).err,
-		"label 98":                 shared.Label(98, "x"),
-		"children 97 0 3":          of(shared.Children(97, 0, 3)).err,
+		"label 98":                 kept.Label(98, "x"),
+		"children 97 0 3":          of(kept.Children(97, 0, 3)).err,
 		"control tasks 1 7 0":      of(table.ControlTasks(1, 7, 0)).err,
 	} {
 		var refusal Refusal
@@ -139,29 +139,33 @@ func TestEachFieldOfACallHasItsRange(t *testing.T) {
 
 // A bad argument is named, with its range, and is out of range.
 func TestABadArgumentIsNamed(t *testing.T) {
-	shared := openShared(t, Settings{PidMax: 32768, Workers: 2})
-	seat := seatOf(t, shared)
-	dump, _ := shared.Dump()
+	table := open(t, withHistory(2))
+	seat := seatOf(t, table)
+	dump, _ := table.Dump()
 	for wanted, err := range map[string]error{
-		"pidMax is 300, and not 301 to 4194304":                           of(Open(300)).err,
-		"Settings.PidMax is 0, and not 301 to 4194304":                    of(OpenShared(Settings{})).err,
-		"Settings.PidMax is 4194305, and not 301 to 4194304":              of(OpenShared(Settings{PidMax: 4194305, Workers: 1})).err,
-		"Settings.Workers is 17, and not 1 to 16":                         of(OpenShared(Settings{PidMax: 301, Workers: 17})).err,
-		"worker is 2, and not 0 to 1":                                     of(shared.Worker(2)).err,
-		"most is -1, and not 0 or more":                                   of(shared.Entries(0, -1)).err,
-		"Call is fork 1 new, and not a query, as the operations say":      of(shared.Ask(Call{Operation: OpFork, Caller: 1, Choice: 1})).err,
-		"Call.Choice (which) is 4, and not 0 to 3":                        of(shared.Would(Call{Operation: OpWait, Choice: 4})).err,
-		"Call.Choice (new_space) is 2, and not 0 to 1":                    of(seat.Call(Call{Operation: OpFork, Choice: 2})).err,
-		"calls[1].Number (status) is 256, and not 0 to 255":               of(seat.Calls([]Call{{Operation: OpExec}, {Operation: OpExit, Number: 256}})).err,
-		"len(counts) is 0, and not 1 to 16":                               of(SharedFromDump(dump, nil, 0)).err,
-		"the sum of counts is 7, and not less than the stamp of the text": of(SharedFromDump(dump, []uint64{7}, 0)).err,
-		"saved entry 0: Entry.Worker is 2, and not 0 to 1":                shared.Replay([]Entry{{Worker: 2}}),
+		"Settings.PidMax is 300, and not 301 to 4194304":                                            of(Open(Settings{PidMax: 300})).err,
+		"Settings.PidMax is 4194305, and not 301 to 4194304":                                        of(Open(Settings{PidMax: 4194305, Keep: 1, Threads: true})).err,
+		"Settings.Workers is 17, and not 1 to 16":                                                   of(Open(Settings{Workers: 17, Keep: KeepAll})).err,
+		"Settings.Workers is 18, and not 1 to 16":                                                   of(Open(Settings{Workers: 18})).err,
+		"Settings.Workers is 4, and not 1: workers count the calls of a history: open it with keep": of(Open(Settings{Workers: 4, Threads: true})).err,
+		"worker is 2, and not 0 to 1":                                                               of(table.Worker(2)).err,
+		"most is -1, and not 0 or more":                                                             of(table.Entries(0, -1)).err,
+		"Call is fork 1 new, and not a query, as the operations say":                                of(table.Ask(Call{Operation: OpFork, Caller: 1, Choice: 1})).err,
+		"Call.Choice (which) is 4, and not 0 to 3":                                                  of(table.Would(Call{Operation: OpWait, Choice: 4})).err,
+		"Call.Choice (new_space) is 2, and not 0 to 1":                                              of(seat.Call(Call{Operation: OpFork, Choice: 2})).err,
+		"calls[1].Number (status) is 256, and not 0 to 255":                                         of(seat.Calls([]Call{{Operation: OpExec}, {Operation: OpExit, Number: 256}})).err,
+		"len(counts) is 1, and not 2, as Settings.Workers":                                          of(FromDump(dump, Settings{Keep: 1, Workers: 2}, 7)).err,
+		"len(counts) is 2, and not 0: counts are of a history: open it with keep":                   of(FromDump(dump, Settings{}, 0, 0)).err,
+		"Settings.Workers is 2, and not 1: workers count the calls of a history":                    of(FromDump(dump, Settings{Workers: 2})).err,
+		"Settings.Workers is 19, and not 1 to 16":                                                   of(FromDump(dump, Settings{Keep: 1}, make([]uint64, 19)...)).err,
+		"the sum of counts is 7, and not less than the stamp of the text":                           of(FromDump(dump, Settings{Keep: KeepAll}, 7)).err,
+		"saved entry 0: Entry.Worker is 2, and not 0 to 1":                                          table.Replay([]Entry{{Worker: 2}}),
 	} {
 		if fault := new(RangeError); !errors.Is(err, ErrOutOfRange) || !errors.As(err, fault) || !saysAll(err, wanted) {
 			t.Errorf("%s: %v", wanted, err)
 		}
 	}
-	if counts, err := shared.Counts(); counts != (Counts{}) || err != nil {
+	if counts, err := table.Counts(); counts != (Counts{}) || err != nil {
 		t.Error(counts, err)
 	}
 }
@@ -178,7 +182,7 @@ func saysAll(err error, wanted string) bool {
 
 // The more general errors are found too.
 func TestErrorsOfAKind(t *testing.T) {
-	table := open(t, 32768)
+	table := open(t, Settings{})
 	_, noSpace := table.Space(7)
 	_, noControl := table.ControlsInside(7, 0)
 	if !errors.Is(noSpace, ErrNoNamespace) || errors.Is(noSpace, ErrNoControl) || !errors.Is(ErrNoNamespace, ErrOutOfRange) {
@@ -209,13 +213,13 @@ func soon(t *testing.T, wait func() error) error {
 
 // A context ends each wait for the saver, and neither a call nor a wait that needs none.
 func TestAContextEndsEachWait(t *testing.T) {
-	shared := openShared(t, Settings{PidMax: 32768, Workers: 1})
-	seat := seatOf(t, shared)
+	table := open(t, withHistory(1))
+	seat := seatOf(t, table)
 	ctx, cancel := context.WithTimeout(context.Background(), short)
 	defer cancel()
 	done, over := context.WithCancel(context.Background())
 	over()
-	shared.BoundUnsaved(1)
+	table.BoundUnsaved(1)
 	want(t, "near enough", of(seat.With(done).Getpid(1)), uint32(1), nil)
 	waits := []func(*Seat) error{
 		func(seat *Seat) error { _, err := seat.Getpid(1); return err },
@@ -223,7 +227,7 @@ func TestAContextEndsEachWait(t *testing.T) {
 		func(seat *Seat) error { _, err := seat.Calls([]Call{{Operation: OpGetpid}}); return err },
 		func(seat *Seat) error { _, err := seat.ForkAt(1, false, Child{2, 2}); return err },
 		func(seat *Seat) error { _, _, err := seat.Told(Call{Operation: OpGetpid}); return err },
-		func(*Seat) error { return shared.WaitSavedContext(ctx, 0) },
+		func(*Seat) error { return table.WaitSavedContext(ctx, 0) },
 	}
 	for place, wait := range waits {
 		if err := soon(t, func() error { return wait(seat.With(ctx)) }); err != context.DeadlineExceeded {
@@ -233,40 +237,40 @@ func TestAContextEndsEachWait(t *testing.T) {
 			t.Error(place, err)
 		}
 	}
-	want(t, "one call", of(shared.Counts()), Counts{0, 1}, nil)
+	want(t, "one call", of(table.Counts()), Counts{0, 1}, nil)
 	for place, wait := range waits[:5] {
 		if err := wait(seat.With(nil)); err != ErrNil {
 			t.Error(place, err)
 		}
 	}
-	want(t, "nil", only(shared.WaitSavedContext(nil, 0)), nil, ErrNil)
+	want(t, "nil", only(table.WaitSavedContext(nil, 0)), nil, ErrNil)
 }
 
 // A saver whose context is done has a turn yet. Who waits has its error, until another saver does better.
 func TestAContextEndsASaver(t *testing.T) {
-	shared, saved, to := openShared(t, Settings{PidMax: 32768, Workers: 1}), new(Saved), new(disk)
-	seat, ended, waiter := seatOf(t, shared), make(chan error, 1), make(chan error, 1)
+	table, saved, to := open(t, withHistory(1)), new(Saved), new(disk)
+	seat, ended, waiter := seatOf(t, table), make(chan error, 1), make(chan error, 1)
 	ctx, cancel := context.WithCancel(context.Background())
-	go func() { ended <- shared.ServeContext(ctx, to, saved, 0, to.sync) }()
+	go func() { ended <- table.ServeContext(ctx, to, saved, 0, to.sync) }()
 	first := ask(t, seat)
-	want(t, "served", only(shared.WaitSavedContext(ctx, first)), nil, nil)
-	go func() { waiter <- shared.WaitSaved(first + 1) }()
+	want(t, "served", only(table.WaitSavedContext(ctx, first)), nil, nil)
+	go func() { waiter <- table.WaitSaved(first + 1) }()
 	time.Sleep(short)
 	cancel()
-	later := func() error { return shared.WaitSaved(first + 1) }
+	later := func() error { return table.WaitSaved(first + 1) }
 	for _, wait := range []func() error{func() error { return <-ended }, func() error { return <-waiter }, later} {
 		err := soon(t, wait)
 		if fault := new(SavedError); !errors.Is(err, context.Canceled) || !errors.As(err, fault) || fault.Calls != 1 {
 			t.Error(err)
 		}
 	}
-	want(t, "what is saved", only(shared.WaitSavedContext(ctx, first)), nil, nil)
+	want(t, "what is saved", only(table.WaitSavedContext(ctx, first)), nil, nil)
 	ask(t, seat)
-	if err := shared.ServeContext(ctx, to, saved, 0, to.sync); !errors.Is(err, context.Canceled) || saved.Calls() != 2 {
+	if err := table.ServeContext(ctx, to, saved, 0, to.sync); !errors.Is(err, context.Canceled) || saved.Calls() != 2 {
 		t.Error(err, saved.Calls())
 	}
 	want(t, "all is saved", only(soon(t, later)), nil, nil)
-	shared.EndSaving()
-	want(t, "behind the end", only(shared.ServeContext(ctx, to, saved, 0, nil)), nil, nil)
-	want(t, "nil", only(shared.ServeContext(nil, to, saved, 0, nil)), nil, SavedError{Err: ErrNil})
+	table.EndSaving()
+	want(t, "behind the end", only(table.ServeContext(ctx, to, saved, 0, nil)), nil, nil)
+	want(t, "nil", only(table.ServeContext(nil, to, saved, 0, nil)), nil, SavedError{Err: ErrNil})
 }

@@ -16,7 +16,7 @@ import (
 
 // opened is a new table.
 func opened() *pidtab.Table {
-	table, err := pidtab.Open(32768)
+	table, err := pidtab.Open(pidtab.Settings{})
 	if err != nil {
 		log.Fatal(err)
 	}
@@ -34,19 +34,19 @@ func serve(seat *pidtab.Seat) {
 }
 
 // A table for many goroutines, with its history.
-func ExampleOpenShared() {
-	settings := pidtab.Settings{PidMax: 32768, Workers: 5}
-	shared, err := pidtab.OpenShared(settings)
+func ExampleOpen() {
+	settings := pidtab.Settings{Keep: pidtab.KeepAll, Workers: 5, Threads: true}
+	table, err := pidtab.Open(settings)
 	if err != nil {
 		log.Fatal(err)
 	}
-	defer shared.Close()
-	seat, _ := shared.Seat()
+	defer table.Close()
+	seat, _ := table.Seat()
 	fmt.Println(seat.Getpid(1))
 	fmt.Println(seat.Ordinal())
 	var busy sync.WaitGroup
 	for i := 1; i < 5; i++ {
-		worker, _ := shared.Seat()
+		worker, _ := table.Seat()
 		busy.Add(1)
 		go func() {
 			defer busy.Done()
@@ -54,23 +54,23 @@ func ExampleOpenShared() {
 		}()
 	}
 	busy.Wait()
-	fmt.Println(shared.Counts())
-	fmt.Println(shared.Worker(4))
-	count, _ := shared.Ask(pidtab.Call{Operation: pidtab.OpCount})
+	fmt.Println(table.Counts())
+	fmt.Println(table.Worker(4))
+	count, _ := table.Ask(pidtab.Call{Operation: pidtab.OpCount})
 	fmt.Println(count.First, "live tasks")
-	first, _ := shared.Entry(0)
+	first, _ := table.Entry(0)
 	fmt.Println(first.Call.Operation == pidtab.OpGetpid, first.Reply.First)
-	history, _ := shared.Entries(0, math.MaxInt)
-	again, _ := pidtab.OpenShared(settings)
+	history, _ := table.Entries(0, math.MaxInt)
+	again, _ := pidtab.Open(settings)
 	defer again.Close()
 	fmt.Println(again.Replay(history))
-	list, _ := shared.List()
+	list, _ := table.List()
 	same, _ := again.List()
 	fmt.Println("the same list:", same == list)
-	fmt.Println(shared.CheckpointAt(7))
-	fmt.Println(shared.CheckpointAt(uint64(len(history))))
-	fmt.Println(shared.Counts())
-	_, err = shared.Entry(0)
+	fmt.Println(table.CheckpointAt(7))
+	fmt.Println(table.CheckpointAt(uint64(len(history))))
+	fmt.Println(table.Counts())
+	_, err = table.Entry(0)
 	fmt.Println(err)
 	// Output:
 	// 1 <nil>
@@ -87,6 +87,26 @@ func ExampleOpenShared() {
 	// pidtab: no entry with the ordinal is kept: it was cut away, or is not reached yet
 }
 
+// A fork and a move of its child in one go: no other goroutine finds the child in another control group.
+func ExampleTable_Lock() {
+	table, err := pidtab.Open(pidtab.Settings{Threads: true})
+	if err != nil {
+		log.Fatal(err)
+	}
+	defer table.Close()
+	group, _ := table.Mk(0)
+	held, err := table.Lock()
+	if err != nil {
+		log.Fatal(err)
+	}
+	child, _ := held.Fork(1, pidtab.NoNewNamespace)
+	held.Move(child.Root, group)
+	held.Unlock()
+	fmt.Println(table.ControlTasks(1, group, 0))
+	// Output:
+	// [2] <nil>
+}
+
 // live is a supervisor's life: it goes on where the file ends, forks, and saves that.
 func live(path string) error {
 	file, err := os.OpenFile(path, os.O_RDWR|os.O_CREATE, 0o600)
@@ -94,15 +114,15 @@ func live(path string) error {
 		return err
 	}
 	defer file.Close()
-	shared, saved, err := pidtab.ResumeShared(file, pidtab.Settings{PidMax: 32768, Workers: 4})
+	table, saved, err := pidtab.Resume(file, pidtab.Settings{Keep: pidtab.KeepAll, Workers: 4})
 	if err != nil {
 		return err
 	}
-	defer shared.Close()
+	defer table.Close()
 	fmt.Println("calls:", saved.Calls(), "bytes left out:", saved.LeftOut())
-	seat, _ := shared.Seat()
+	seat, _ := table.Seat()
 	child, _ := seat.Fork(1, pidtab.NoNewNamespace)
-	if err := shared.Save(file, saved); err != nil {
+	if err := table.Save(file, saved); err != nil {
 		return err
 	}
 	fmt.Println("child", child.Number)
@@ -110,7 +130,7 @@ func live(path string) error {
 }
 
 // A supervisor lives three times. Before the second a write was stopped, and before the third a byte was changed.
-func ExampleResumeShared() {
+func ExampleResume() {
 	folder, err := os.MkdirTemp("", "pidtab")
 	if err != nil {
 		log.Fatal(err)
@@ -139,7 +159,7 @@ func ExampleResumeShared() {
 
 // A table as text, and tables of that text.
 func ExampleFromDump() {
-	table, err := pidtab.Open(32768)
+	table, err := pidtab.Open(pidtab.Settings{})
 	if err != nil {
 		log.Fatal(err)
 	}
@@ -149,23 +169,23 @@ func ExampleFromDump() {
 		log.Fatal(err)
 	}
 
-	again, err := pidtab.FromDump(text)
+	again, err := pidtab.FromDump(text, pidtab.Settings{})
 	if err != nil {
 		log.Fatal(err)
 	}
 	fmt.Println(again.Fork(child.Root, false))
 	fmt.Println(table.Fork(child.Root, false))
 
-	// For goroutines, with a history that begins there: one worker, which has made one call before.
-	shared, err := pidtab.SharedFromDump(text, []uint64{1}, 0)
+	// With a history that begins there: one worker, which has made one call before.
+	kept, err := pidtab.FromDump(text, pidtab.Settings{Keep: pidtab.KeepAll}, 1)
 	if err != nil {
 		log.Fatal(err)
 	}
-	seat, _ := shared.Seat()
+	seat, _ := kept.Seat()
 	seat.Fork(child.Root, false)
 	fmt.Println(seat.Ordinal())
 
-	_, err = pidtab.FromDump(strings.Replace(text, "live", "dead", 1))
+	_, err = pidtab.FromDump(strings.Replace(text, "live", "dead", 1), pidtab.Settings{})
 	fmt.Println(err)
 	// Output:
 	// {2 3} <nil>
@@ -478,12 +498,12 @@ func ExampleTable_ControlTasks() {
 }
 
 // ship tells each call once it is recorded, with its answer, until the context is done: then it has told all of them.
-func ship(ctx context.Context, shared *pidtab.Shared) error {
+func ship(ctx context.Context, table *pidtab.Table) error {
 	for shipped := uint64(0); ; {
-		if _, err := shared.WaitChanged(ctx, shipped); err != nil {
+		if _, err := table.WaitChanged(ctx, shipped); err != nil {
 			return err
 		}
-		entries, err := shared.Entries(shipped, 1000)
+		entries, err := table.Entries(shipped, 1000)
 		if err != nil {
 			return err
 		}
@@ -496,17 +516,17 @@ func ship(ctx context.Context, shared *pidtab.Shared) error {
 	}
 }
 
-// Who follows a shared table: a goroutine that ships each call once it is recorded.
-func ExampleShared_WaitChanged() {
-	shared, err := pidtab.OpenShared(pidtab.Settings{PidMax: 32768, Workers: 1})
+// Who follows a table: a goroutine that ships each call once it is recorded.
+func ExampleTable_WaitChanged() {
+	table, err := pidtab.Open(pidtab.Settings{Keep: pidtab.KeepAll, Threads: true})
 	if err != nil {
 		log.Fatal(err)
 	}
-	defer shared.Close()
+	defer table.Close()
 	ctx, cancel := context.WithCancel(context.Background())
 	shipper := make(chan error)
-	go func() { shipper <- ship(ctx, shared) }()
-	seat, _ := shared.Seat()
+	go func() { shipper <- ship(ctx, table) }()
+	seat, _ := table.Seat()
 	child, _ := seat.Fork(1, pidtab.NoNewNamespace)
 	seat.Exit(child.Root, 7)
 	seat.Wait(1, pidtab.Pid(child.Number))

@@ -18,7 +18,7 @@ func asJSON(t *testing.T, value any) string {
 }
 
 func TestAnswersAsJSON(t *testing.T) {
-	table := open(t, 32768)
+	table := open(t, Settings{})
 	play(t, table, "fork 1 new", "join 1 2", "fork 1", "exit 2 7")
 	ended, _ := table.Wait(1, Pid(2))
 	killed, _ := table.Wait(1, Pid(3))
@@ -57,7 +57,7 @@ func label(t *testing.T, table *Table, task uint32, text string) {
 }
 
 func TestLabelsOfATable(t *testing.T) {
-	table := open(t, 32768)
+	table := open(t, Settings{})
 	play(t, table, "fork 1", "fork 1", "exit 3 0")
 	before, _ := table.Dump()
 	label(t, table, 2, "web 1")
@@ -96,7 +96,7 @@ func goUp(t *testing.T, it calls) {
 }
 
 func TestALabelGoesWithItsTask(t *testing.T) {
-	table := open(t, 301)
+	table := open(t, Settings{PidMax: 301})
 	goUp(t, table.calls)
 	for name, fork := range map[string]func(){
 		"fork": func() { table.Fork(1, false) },
@@ -120,7 +120,7 @@ func TestALabelGoesWithItsTask(t *testing.T) {
 }
 
 func TestLabelsThatAreNone(t *testing.T) {
-	table := open(t, 32768)
+	table := open(t, Settings{})
 	want(t, "nobody", only(table.Label(9, "x")), nil, Refusal{syscall.ESRCH, "no-task", NoTask, 0, "label 9"})
 	for _, text := range []string{"a\nb", "\x07", "\xff", "\u2028"} {
 		want(t, text, only(table.Label(1, text)), nil, ErrBadLabel)
@@ -130,36 +130,36 @@ func TestLabelsThatAreNone(t *testing.T) {
 	want(t, "none", only(new(Table).Label(1, "x")), nil, ErrClosed)
 }
 
-func TestLabelsOfASharedTable(t *testing.T) {
-	shared, err := OpenShared(Settings{PidMax: 301, Workers: 2})
+func TestLabelsOfATableWithItsHistory(t *testing.T) {
+	table, err := Open(Settings{PidMax: 301, Workers: 2, Keep: KeepAll, Threads: true})
 	if err != nil {
 		t.Fatal(err)
 	}
-	t.Cleanup(shared.Close)
-	seat, _ := shared.Seat()
+	t.Cleanup(table.Close)
+	seat, _ := table.Seat()
 	goUp(t, seat.calls)
-	counts, _ := shared.Counts()
-	saved, err := shared.Entries(counts.Recorded-1, 1)
+	counts, _ := table.Counts()
+	saved, err := table.Entries(counts.Recorded-1, 1)
 	if err != nil {
 		t.Fatal(err)
 	}
 	for name, fork := range map[string]func(){
 		"call":   func() { seat.Fork(1, false) },
 		"line":   func() { seat.Line("fork 1") },
-		"replay": func() { shared.Replay(saved) },
+		"replay": func() { table.Replay(saved) },
 	} {
-		if err := shared.Label(last, "short"); err != nil {
+		if err := table.Label(last, "short"); err != nil {
 			t.Fatal(err)
 		}
 		seat.Exit(last, 0)
-		want(t, name, of(labelsOf(t, shared), nil), map[uint32]string{last: "short"}, nil)
+		want(t, name, of(labelsOf(t, table), nil), map[uint32]string{last: "short"}, nil)
 		seat.Wait(1, Any())
 		fork()
 		if _, err := seat.Getpid(last); err != nil {
 			t.Fatal(name, err)
 		}
-		want(t, name, of(labelsOf(t, shared), nil), map[uint32]string{}, nil)
+		want(t, name, of(labelsOf(t, table), nil), map[uint32]string{}, nil)
 	}
-	want(t, "nobody", only(shared.Label(9, "x")), nil, Refusal{syscall.ESRCH, "no-task", NoTask, 0, "label 9"})
-	want(t, "no label", only(shared.Label(1, "a\nb")), nil, ErrBadLabel)
+	want(t, "nobody", only(table.Label(9, "x")), nil, Refusal{syscall.ESRCH, "no-task", NoTask, 0, "label 9"})
+	want(t, "no label", only(table.Label(1, "a\nb")), nil, ErrBadLabel)
 }

@@ -14,24 +14,15 @@ import (
 var ErrBadLabel = errors.New("pidtab: a label is printable text of one line")
 
 // Label names a task, by its root number, in Listing and in its JSON; an empty text takes the name away. It is no call: the table, its text and
-// its history know nothing of it. The name goes when the number is another task's. Refused as no-task; ErrBadLabel, ErrClosed, ErrBusy.
+// its history know nothing of it. The name goes when the number is another task's, and all go with a Replay that stops. Refused as no-task; ErrBadLabel.
 func (table *Table) Label(task uint32, text string) error {
 	held := table.held()
-	held.lock.Lock()
-	defer held.lock.Unlock()
+	if !held.enter() {
+		return ErrBusy
+	}
+	defer held.Unlock()
 	err := held.labels.put(text, func(found *C.struct_pidtab_task) C.uint32_t {
 		return C.pidtab_stat(&held.raw, 1, C.uint32_t(task), found)
-	})
-	return withCall(err, "label", uint64(task))
-}
-
-// Label names a task, as that of a Table does: whoever lists the table sees the name. A Replay that stops takes all names away.
-func (shared *Shared) Label(task uint32, text string) error {
-	held := shared.held()
-	held.lock.Lock()
-	defer held.lock.Unlock()
-	err := held.labels.put(text, func(found *C.struct_pidtab_task) C.uint32_t {
-		return C.pidtab_record_stat(held.raw, 1, C.uint32_t(task), found)
 	})
 	return withCall(err, "label", uint64(task))
 }

@@ -139,7 +139,7 @@ func TestListsAreReadWhole(t *testing.T) {
 }
 
 func TestTheListingOfATable(t *testing.T) {
-	table := open(t, 32768)
+	table := open(t, Settings{})
 	play(t, table, "fork 1 new", "fork 2", "mk 0", "limit 3 5", "move 3 3", "exec 3", "exit 2 7")
 	listing, err := table.Listing()
 	if err != nil {

@@ -8,13 +8,17 @@ import "unsafe"
 // shortPage is the room for a first try, in numbers.
 const shortPage = 64
 
-// allOf are all numbers of a function of the library that writes as many as there is room for, and whose reply counts all. Nothing changes
-// between two tries, as the lock is held.
-func allOf(page func(numbers *C.uint32_t, room C.size_t, reply *C.struct_pidtab_reply) C.uint32_t) ([]uint32, error) {
-	reply := new(C.struct_pidtab_reply)
+// numbers are all numbers of a function of the library that writes as many as there is room for, and whose reply counts all. Nothing changes between
+// two tries.
+func (table *Table) numbers(page func(held *heldTable, numbers *C.uint32_t, room C.size_t, reply *C.struct_pidtab_reply) C.uint32_t) ([]uint32, error) {
+	held, reply := table.held(), new(C.struct_pidtab_reply)
+	if !held.share() {
+		return nil, ErrBusy
+	}
+	defer held.RUnlock()
 	for there := shortPage; ; {
 		numbers := make([]uint32, there)
-		status := page((*C.uint32_t)(unsafe.Pointer(&numbers[0])), C.size_t(there), reply)
+		status := page(held, (*C.uint32_t)(unsafe.Pointer(&numbers[0])), C.size_t(there), reply)
 		if err := faultOf(uint32(status)); err != nil {
 			return nil, err
 		}

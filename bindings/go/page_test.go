@@ -8,7 +8,7 @@ import (
 	"testing"
 )
 
-// lister is what a Table and a Shared answer lists by.
+// lister is what a Table answers lists by.
 type lister interface {
 	Children(caller, pid, from uint32) ([]uint32, error)
 	GroupMembers(caller, group, from uint32) ([]uint32, error)
@@ -26,17 +26,17 @@ func listsOf(of lister) [5]func(caller, number, from uint32) ([]uint32, error) {
 // numbered has a list of these numbers.
 func numbered(numbers ...uint32) []uint32 { return append([]uint32{}, numbers...) }
 
-// openBoth has the same tasks in a table and in a shared one. 3 is 1 of a new namespace, and its child 4 is 2 there. 2 leads a session, of which is its
+// openBoth has the same tasks in a table and in a kept one. 3 is 1 of a new namespace, and its child 4 is 2 there. 2 leads a session, of which is its
 // child 5, a zombie.
-func openBoth(t *testing.T) (*Table, *Shared) {
+func openBoth(t *testing.T) (*Table, *Table) {
 	t.Helper()
-	table := open(t, 32768)
-	shared, err := OpenShared(Settings{PidMax: 32768, Workers: 1})
+	table := open(t, Settings{})
+	kept, err := Open(withHistory(1))
 	if err != nil {
 		t.Fatal(err)
 	}
-	t.Cleanup(shared.Close)
-	seat, err := shared.Seat()
+	t.Cleanup(kept.Close)
+	seat, err := kept.Seat()
 	if err != nil {
 		t.Fatal(err)
 	}
@@ -51,12 +51,12 @@ func openBoth(t *testing.T) (*Table, *Shared) {
 			t.Fatal(err)
 		}
 	}
-	return table, shared
+	return table, kept
 }
 
 func TestWhomAPageLists(t *testing.T) {
-	table, shared := openBoth(t)
-	for _, it := range []lister{table, shared} {
+	table, kept := openBoth(t)
+	for _, it := range []lister{table, kept} {
 		for _, row := range []struct {
 			ask                  func(caller, number, from uint32) ([]uint32, error)
 			caller, number, from uint32
@@ -82,12 +82,12 @@ func TestWhomAPageLists(t *testing.T) {
 			}
 		}
 	}
-	if counts, err := shared.Counts(); err != nil || counts.Recorded != 6 {
+	if counts, err := kept.Counts(); err != nil || counts.Recorded != 6 {
 		t.Error(counts, err)
 	}
 	table.Close()
-	shared.Close()
-	for _, it := range []lister{table, shared} {
+	kept.Close()
+	for _, it := range []lister{table, kept} {
 		for _, list := range listsOf(it) {
 			if _, err := list(1, 0, 0); !errors.Is(err, ErrClosed) {
 				t.Error(err)
@@ -97,7 +97,7 @@ func TestWhomAPageLists(t *testing.T) {
 }
 
 func TestMoreThanThereIsRoomForAtFirst(t *testing.T) {
-	table, wanted := open(t, 32768), numbered()
+	table, wanted := open(t, Settings{}), numbered()
 	for number := uint32(2); number < 3*shortPage; number++ {
 		if _, err := table.Fork(1, NoNewNamespace); err != nil {
 			t.Fatal(err)
@@ -114,9 +114,9 @@ func TestMoreThanThereIsRoomForAtFirst(t *testing.T) {
 
 // The control group 2 is in 1. 3 is the init of a namespace, and its child 4 is 2 there. 2 and 4 are in 1, 5 in 2, and 6 is a zombie there.
 func TestTasksOfControlGroups(t *testing.T) {
-	table, shared := open(t, 32768), openShared(t, Settings{PidMax: 32768, Workers: 1})
-	makeBoth(t, table, seatOf(t, shared), "mk 0", "mk 1", "fork 1", "fork 1 new", "fork 3", "move 2 1", "move 4 1", "fork 1", "move 5 2", "fork 5", "exit 6 0")
-	for _, it := range []lister{table, shared} {
+	table, kept := open(t, Settings{}), open(t, withHistory(1))
+	makeBoth(t, table, seatOf(t, kept), "mk 0", "mk 1", "fork 1", "fork 1 new", "fork 3", "move 2 1", "move 4 1", "fork 1", "move 5 2", "fork 5", "exit 6 0")
+	for _, it := range []lister{table, kept} {
 		for _, row := range []struct {
 			caller  uint32
 			control uint64
@@ -137,10 +137,10 @@ func TestTasksOfControlGroups(t *testing.T) {
 		isListRefused(t, it, 1, 4, NoControl)
 		isListRefused(t, it, 1, 1<<64-1, NoControl)
 	}
-	wantCounts(t, shared, 0, 11)
+	wantCounts(t, kept, 0, 11)
 	table.Close()
-	shared.Close()
-	for _, it := range []lister{table, shared} {
+	kept.Close()
+	for _, it := range []lister{table, kept} {
 		if _, err := it.ControlTasks(1, 0, 0); !errors.Is(err, ErrClosed) {
 			t.Error(err)
 		}
@@ -158,27 +158,27 @@ func isListRefused(t *testing.T, it lister, caller uint32, control uint64, wante
 
 // As in a forked child, where the thread whose call was under way is not.
 func TestAListBesideACallThatDoesNotEnd(t *testing.T) {
-	table := open(t, 32768)
-	table.own.raw.in_use = 255
+	table := open(t, Settings{})
+	table.held().raw.in_use = 255
 	if found, err := table.ControlTasks(1, 0, 0); found != nil || err != ErrBusy {
 		t.Error(found, err)
 	}
-	table.own.raw.in_use = 0
+	table.held().raw.in_use = 0
 }
 
 // besideAWriter has goroutines read while another one forks children of 1: each reads how many it has seen by now, until it has seen all.
-func besideAWriter(t *testing.T, newSpace bool, read func(shared *Shared, before int) (int, error)) {
+func besideAWriter(t *testing.T, newSpace bool, read func(table *Table, before int) (int, error)) {
 	t.Helper()
 	const forks, readers = 300, 3
-	shared := openShared(t, Settings{PidMax: 32768, Workers: 1})
-	seat := seatOf(t, shared)
+	table := open(t, withHistory(1))
+	seat := seatOf(t, table)
 	var all sync.WaitGroup
 	for range [readers]int{} {
 		all.Add(1)
 		go func() {
 			defer all.Done()
 			for before := 0; before < forks; {
-				now, err := read(shared, before)
+				now, err := read(table, before)
 				if err != nil || now < before {
 					t.Error(before, now, err)
 					return
@@ -206,12 +206,12 @@ func inOrder[Number uint32 | uint64](found []Number, err error, first Number) (i
 }
 
 func TestListsBesideAWriter(t *testing.T) {
-	besideAWriter(t, NoNewNamespace, func(shared *Shared, before int) (int, error) {
-		found, err := shared.Children(1, 0, 0)
+	besideAWriter(t, NoNewNamespace, func(table *Table, before int) (int, error) {
+		found, err := table.Children(1, 0, 0)
 		return inOrder(found, err, 2)
 	})
-	besideAWriter(t, NoNewNamespace, func(shared *Shared, before int) (int, error) {
-		found, err := shared.ControlTasks(1, 0, 2)
+	besideAWriter(t, NoNewNamespace, func(table *Table, before int) (int, error) {
+		found, err := table.ControlTasks(1, 0, 2)
 		return inOrder(found, err, 2)
 	})
 }

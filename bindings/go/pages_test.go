@@ -46,7 +46,7 @@ func played(t *testing.T, script string) string {
 	if err != nil {
 		t.Fatal(err)
 	}
-	table := open(t, uint32(pidMax))
+	table := open(t, Settings{PidMax: uint32(pidMax)})
 	told := "# " + head + "\n"
 	for _, line := range strings.Split(lines, "\n") {
 		told += answered(t, table, line)

@@ -3,15 +3,16 @@ package pidtab
 // #include <pidtab.h>
 import "C"
 
-// Written by tools/interface: questions of a table.
+// Written by tools/interface: questions.
 
 // Ask answers a query as its call would be answered, refusals too. Nothing changes, and it is not counted. It takes no memory. The
 // operations say which are queries; ErrOutOfRange for each other call. ErrClosed, ErrBusy.
 func (table *Table) Ask(query Call) (Reply, error) {
-	held, numbers, reply := table.held(), query.numbers(), new(C.struct_pidtab_reply)
-	held.lock.RLock()
-	defer held.lock.RUnlock()
-	if err := named(C.pidtab_ask(&held.raw, &numbers, reply), query.queryFault); err != nil {
+	numbers, reply := query.numbers(), new(C.struct_pidtab_reply)
+	status := table.beside(func(held *heldTable) C.uint32_t {
+		return C.pidtab_ask(&held.raw, &numbers, reply)
+	})
+	if err := named(status, query.queryFault); err != nil {
 		return Reply{}, err
 	}
 	return replyOf(reply), nil
@@ -20,10 +21,11 @@ func (table *Table) Ask(query Call) (Reply, error) {
 // Stat reads the task pid of the caller's namespace, where 0 is the caller, and a zombie too, as getpgid finds it. It costs what a getpgid
 // costs. It is no call, as Ask makes none. Refused as no-caller, no-task. ErrClosed, ErrBusy.
 func (table *Table) Stat(caller, pid uint32) (Stat, error) {
-	held, task := table.held(), new(C.struct_pidtab_task)
-	held.lock.RLock()
-	defer held.lock.RUnlock()
-	found, err := statOf(C.pidtab_stat(&held.raw, C.uint32_t(caller), C.uint32_t(pid), task), task)
+	task := new(C.struct_pidtab_task)
+	status := table.beside(func(held *heldTable) C.uint32_t {
+		return C.pidtab_stat(&held.raw, C.uint32_t(caller), C.uint32_t(pid), task)
+	})
+	found, err := statOf(status, task)
 	return found, withCall(err, "stat", uint64(caller), uint64(pid))
 }
 
@@ -31,10 +33,7 @@ func (table *Table) Stat(caller, pid uint32) (Stat, error) {
 // and not below from. Who is not visible there is left out, and a number that is nobody's has none. It costs what is read of each of them.
 // It takes memory for a list. It is no call, as Ask makes none. Refused as no-caller. ErrNoMemory, ErrClosed, ErrBusy.
 func (table *Table) Children(caller, pid, from uint32) ([]uint32, error) {
-	held := table.held()
-	held.lock.RLock()
-	defer held.lock.RUnlock()
-	found, err := allOf(func(numbers *C.uint32_t, room C.size_t, reply *C.struct_pidtab_reply) C.uint32_t {
+	found, err := table.numbers(func(held *heldTable, numbers *C.uint32_t, room C.size_t, reply *C.struct_pidtab_reply) C.uint32_t {
 		return C.pidtab_page(&held.raw, C.uint32_t(caller), C.PIDTAB_CHILDREN, C.uint32_t(pid), C.uint32_t(from), numbers, room, reply)
 	})
 	return found, withCall(err, "children", uint64(caller), uint64(pid), uint64(from))
@@ -43,10 +42,7 @@ func (table *Table) Children(caller, pid, from uint32) ([]uint32, error) {
 // GroupMembers tells the members of the process group with the number group, where 0 is the caller's own, as Children has those of a task.
 // It takes memory for a list. It is no call, as Ask makes none. Refused as no-caller. ErrNoMemory, ErrClosed, ErrBusy.
 func (table *Table) GroupMembers(caller, group, from uint32) ([]uint32, error) {
-	held := table.held()
-	held.lock.RLock()
-	defer held.lock.RUnlock()
-	found, err := allOf(func(numbers *C.uint32_t, room C.size_t, reply *C.struct_pidtab_reply) C.uint32_t {
+	found, err := table.numbers(func(held *heldTable, numbers *C.uint32_t, room C.size_t, reply *C.struct_pidtab_reply) C.uint32_t {
 		return C.pidtab_page(&held.raw, C.uint32_t(caller), C.PIDTAB_GROUP_MEMBERS, C.uint32_t(group), C.uint32_t(from), numbers, room, reply)
 	})
 	return found, withCall(err, "group members", uint64(caller), uint64(group), uint64(from))
@@ -55,10 +51,7 @@ func (table *Table) GroupMembers(caller, group, from uint32) ([]uint32, error) {
 // SessionMembers tells the members of the session with the number session, where 0 is the caller's own, as Children has those of a task. It
 // takes memory for a list. It is no call, as Ask makes none. Refused as no-caller. ErrNoMemory, ErrClosed, ErrBusy.
 func (table *Table) SessionMembers(caller, session, from uint32) ([]uint32, error) {
-	held := table.held()
-	held.lock.RLock()
-	defer held.lock.RUnlock()
-	found, err := allOf(func(numbers *C.uint32_t, room C.size_t, reply *C.struct_pidtab_reply) C.uint32_t {
+	found, err := table.numbers(func(held *heldTable, numbers *C.uint32_t, room C.size_t, reply *C.struct_pidtab_reply) C.uint32_t {
 		return C.pidtab_page(&held.raw, C.uint32_t(caller), C.PIDTAB_SESSION_MEMBERS, C.uint32_t(session), C.uint32_t(from), numbers, room, reply)
 	})
 	return found, withCall(err, "session members", uint64(caller), uint64(session), uint64(from))
@@ -68,10 +61,7 @@ func (table *Table) SessionMembers(caller, session, from uint32) ([]uint32, erro
 // Children has those of a task. Of the caller's own namespace these are all that it sees: whom kill(2) of -1 reaches. It takes memory for a
 // list. It is no call, as Ask makes none. Refused as no-caller. ErrNoMemory, ErrClosed, ErrBusy.
 func (table *Table) NamespaceMembers(caller, pid, from uint32) ([]uint32, error) {
-	held := table.held()
-	held.lock.RLock()
-	defer held.lock.RUnlock()
-	found, err := allOf(func(numbers *C.uint32_t, room C.size_t, reply *C.struct_pidtab_reply) C.uint32_t {
+	found, err := table.numbers(func(held *heldTable, numbers *C.uint32_t, room C.size_t, reply *C.struct_pidtab_reply) C.uint32_t {
 		return C.pidtab_page(&held.raw, C.uint32_t(caller), C.PIDTAB_NAMESPACE_MEMBERS, C.uint32_t(pid), C.uint32_t(from), numbers, room, reply)
 	})
 	return found, withCall(err, "namespace members", uint64(caller), uint64(pid), uint64(from))
@@ -80,10 +70,7 @@ func (table *Table) NamespaceMembers(caller, pid, from uint32) ([]uint32, error)
 // NamespaceOwn tells of NamespaceMembers those that are in no namespace inside it. It takes memory for a list. It is no call, as Ask makes
 // none. Refused as no-caller. ErrNoMemory, ErrClosed, ErrBusy.
 func (table *Table) NamespaceOwn(caller, pid, from uint32) ([]uint32, error) {
-	held := table.held()
-	held.lock.RLock()
-	defer held.lock.RUnlock()
-	found, err := allOf(func(numbers *C.uint32_t, room C.size_t, reply *C.struct_pidtab_reply) C.uint32_t {
+	found, err := table.numbers(func(held *heldTable, numbers *C.uint32_t, room C.size_t, reply *C.struct_pidtab_reply) C.uint32_t {
 		return C.pidtab_page(&held.raw, C.uint32_t(caller), C.PIDTAB_NAMESPACE_OWN, C.uint32_t(pid), C.uint32_t(from), numbers, room, reply)
 	})
 	return found, withCall(err, "namespace own", uint64(caller), uint64(pid), uint64(from))
@@ -92,20 +79,18 @@ func (table *Table) NamespaceOwn(caller, pid, from uint32) ([]uint32, error) {
 // Space reads the namespace id, where 0 is the root namespace. It takes no memory, and costs two searches and a few reads. It is no call,
 // as Ask makes none. ErrNoNamespace, by errors.Is, where no namespace has the id, or it is gone. ErrClosed, ErrBusy.
 func (table *Table) Space(id uint64) (SpaceStat, error) {
-	held, space := table.held(), new(C.struct_pidtab_space)
-	held.lock.RLock()
-	defer held.lock.RUnlock()
-	return spaceOf(noSpace(id), C.pidtab_space(&held.raw, C.uint64_t(id), space), space)
+	space := new(C.struct_pidtab_space)
+	status := table.beside(func(held *heldTable) C.uint32_t {
+		return C.pidtab_space(&held.raw, C.uint64_t(id), space)
+	})
+	return spaceOf(noSpace(id), status, space)
 }
 
 // SpacesInside tells the ids of the namespaces directly in the namespace id, where 0 is the root, in rising order and not below from. One
 // that has fallen is among them as long as Space reads it. It costs what is read of each of them. It takes memory for a list. It is no
 // call, as Ask makes none. ErrNoNamespace, by errors.Is, where no namespace has the id, or it is gone. ErrNoMemory, ErrClosed, ErrBusy.
 func (table *Table) SpacesInside(id, from uint64) ([]uint64, error) {
-	held := table.held()
-	held.lock.RLock()
-	defer held.lock.RUnlock()
-	return idsOf(noSpace(id), func(ids *C.uint64_t, room C.size_t, count *C.uint64_t) C.uint32_t {
+	return table.ids(noSpace(id), func(held *heldTable, ids *C.uint64_t, room C.size_t, count *C.uint64_t) C.uint32_t {
 		return C.pidtab_inside(&held.raw, C.PIDTAB_SPACES, C.uint64_t(id), C.uint64_t(from), ids, room, count)
 	})
 }
@@ -114,10 +99,7 @@ func (table *Table) SpacesInside(id, from uint64) ([]uint64, error) {
 // namespace. It takes memory for a list. It is no call, as Ask makes none. ErrNoControl, by errors.Is, where no control group has the id,
 // or it is gone. ErrNoMemory, ErrClosed, ErrBusy.
 func (table *Table) ControlsInside(id, from uint64) ([]uint64, error) {
-	held := table.held()
-	held.lock.RLock()
-	defer held.lock.RUnlock()
-	return idsOf(noControl(id), func(ids *C.uint64_t, room C.size_t, count *C.uint64_t) C.uint32_t {
+	return table.ids(noControl(id), func(held *heldTable, ids *C.uint64_t, room C.size_t, count *C.uint64_t) C.uint32_t {
 		return C.pidtab_inside(&held.raw, C.PIDTAB_CONTROLS, C.uint64_t(id), C.uint64_t(from), ids, room, count)
 	})
 }
@@ -126,10 +108,7 @@ func (table *Table) ControlsInside(id, from uint64) ([]uint64, error) {
 // task: cgroup.procs, in which no zombie appears. It takes memory for a list. It is no call, as Ask makes none. Refused as no-caller,
 // no-control. ErrNoMemory, ErrClosed, ErrBusy.
 func (table *Table) ControlTasks(caller uint32, control uint64, from uint32) ([]uint32, error) {
-	held := table.held()
-	held.lock.RLock()
-	defer held.lock.RUnlock()
-	found, err := allOf(func(numbers *C.uint32_t, room C.size_t, reply *C.struct_pidtab_reply) C.uint32_t {
+	found, err := table.numbers(func(held *heldTable, numbers *C.uint32_t, room C.size_t, reply *C.struct_pidtab_reply) C.uint32_t {
 		return C.pidtab_control_tasks(&held.raw, C.uint32_t(caller), C.uint64_t(control), C.uint32_t(from), numbers, room, reply)
 	})
 	return found, withCall(err, "control tasks", uint64(caller), control, uint64(from))
@@ -139,142 +118,14 @@ func (table *Table) ControlTasks(caller uint32, control uint64, from uint32) ([]
 // WNOWAIT. Nothing changes, and it is not counted. It takes no memory, and does not tell whether the call would find some. It is no call,
 // as Ask makes none. ErrOutOfRange for what is no call. ErrSpent, ErrClosed, ErrBusy.
 func (table *Table) Would(call Call) (Reply, error) {
-	held, numbers, reply := table.held(), call.numbers(), new(C.struct_pidtab_reply)
-	held.lock.RLock()
-	defer held.lock.RUnlock()
-	if err := named(C.pidtab_would(&held.raw, &numbers, reply), call.rangeFault); err != nil {
+	numbers, reply := call.numbers(), new(C.struct_pidtab_reply)
+	status := table.beside(func(held *heldTable) C.uint32_t {
+		return C.pidtab_would(&held.raw, &numbers, reply)
+	})
+	if err := named(status, call.rangeFault); err != nil {
 		return Reply{}, err
 	}
 	return replyOf(reply), nil
 }
 
-// The end of questions of a table.
-
-// Written by tools/interface: questions of a shared table.
-
-// Ask is Ask of a Table; it is not recorded.
-func (shared *Shared) Ask(query Call) (Reply, error) {
-	held, numbers, reply := shared.held(), query.numbers(), new(C.struct_pidtab_reply)
-	held.lock.RLock()
-	defer held.lock.RUnlock()
-	if err := named(C.pidtab_record_ask(held.raw, &numbers, reply), query.queryFault); err != nil {
-		return Reply{}, err
-	}
-	return replyOf(reply), nil
-}
-
-// Stat is Stat of a Table; it is not recorded.
-func (shared *Shared) Stat(caller, pid uint32) (Stat, error) {
-	held, task := shared.held(), new(C.struct_pidtab_task)
-	held.lock.RLock()
-	defer held.lock.RUnlock()
-	found, err := statOf(C.pidtab_record_stat(held.raw, C.uint32_t(caller), C.uint32_t(pid), task), task)
-	return found, withCall(err, "stat", uint64(caller), uint64(pid))
-}
-
-// Children is Children of a Table; it is not recorded.
-func (shared *Shared) Children(caller, pid, from uint32) ([]uint32, error) {
-	held := shared.held()
-	held.lock.RLock()
-	defer held.lock.RUnlock()
-	found, err := allOf(func(numbers *C.uint32_t, room C.size_t, reply *C.struct_pidtab_reply) C.uint32_t {
-		return C.pidtab_record_page(held.raw, C.uint32_t(caller), C.PIDTAB_CHILDREN, C.uint32_t(pid), C.uint32_t(from), numbers, room, reply)
-	})
-	return found, withCall(err, "children", uint64(caller), uint64(pid), uint64(from))
-}
-
-// GroupMembers is GroupMembers of a Table; it is not recorded.
-func (shared *Shared) GroupMembers(caller, group, from uint32) ([]uint32, error) {
-	held := shared.held()
-	held.lock.RLock()
-	defer held.lock.RUnlock()
-	found, err := allOf(func(numbers *C.uint32_t, room C.size_t, reply *C.struct_pidtab_reply) C.uint32_t {
-		return C.pidtab_record_page(held.raw, C.uint32_t(caller), C.PIDTAB_GROUP_MEMBERS, C.uint32_t(group), C.uint32_t(from), numbers, room, reply)
-	})
-	return found, withCall(err, "group members", uint64(caller), uint64(group), uint64(from))
-}
-
-// SessionMembers is SessionMembers of a Table; it is not recorded.
-func (shared *Shared) SessionMembers(caller, session, from uint32) ([]uint32, error) {
-	held := shared.held()
-	held.lock.RLock()
-	defer held.lock.RUnlock()
-	found, err := allOf(func(numbers *C.uint32_t, room C.size_t, reply *C.struct_pidtab_reply) C.uint32_t {
-		return C.pidtab_record_page(held.raw, C.uint32_t(caller), C.PIDTAB_SESSION_MEMBERS, C.uint32_t(session), C.uint32_t(from), numbers, room, reply)
-	})
-	return found, withCall(err, "session members", uint64(caller), uint64(session), uint64(from))
-}
-
-// NamespaceMembers is NamespaceMembers of a Table; it is not recorded.
-func (shared *Shared) NamespaceMembers(caller, pid, from uint32) ([]uint32, error) {
-	held := shared.held()
-	held.lock.RLock()
-	defer held.lock.RUnlock()
-	found, err := allOf(func(numbers *C.uint32_t, room C.size_t, reply *C.struct_pidtab_reply) C.uint32_t {
-		return C.pidtab_record_page(held.raw, C.uint32_t(caller), C.PIDTAB_NAMESPACE_MEMBERS, C.uint32_t(pid), C.uint32_t(from), numbers, room, reply)
-	})
-	return found, withCall(err, "namespace members", uint64(caller), uint64(pid), uint64(from))
-}
-
-// NamespaceOwn is NamespaceOwn of a Table; it is not recorded.
-func (shared *Shared) NamespaceOwn(caller, pid, from uint32) ([]uint32, error) {
-	held := shared.held()
-	held.lock.RLock()
-	defer held.lock.RUnlock()
-	found, err := allOf(func(numbers *C.uint32_t, room C.size_t, reply *C.struct_pidtab_reply) C.uint32_t {
-		return C.pidtab_record_page(held.raw, C.uint32_t(caller), C.PIDTAB_NAMESPACE_OWN, C.uint32_t(pid), C.uint32_t(from), numbers, room, reply)
-	})
-	return found, withCall(err, "namespace own", uint64(caller), uint64(pid), uint64(from))
-}
-
-// Space is Space of a Table; it is not recorded.
-func (shared *Shared) Space(id uint64) (SpaceStat, error) {
-	held, space := shared.held(), new(C.struct_pidtab_space)
-	held.lock.RLock()
-	defer held.lock.RUnlock()
-	return spaceOf(noSpace(id), C.pidtab_record_space(held.raw, C.uint64_t(id), space), space)
-}
-
-// SpacesInside is SpacesInside of a Table; it is not recorded.
-func (shared *Shared) SpacesInside(id, from uint64) ([]uint64, error) {
-	held := shared.held()
-	held.lock.RLock()
-	defer held.lock.RUnlock()
-	return idsOf(noSpace(id), func(ids *C.uint64_t, room C.size_t, count *C.uint64_t) C.uint32_t {
-		return C.pidtab_record_inside(held.raw, C.PIDTAB_SPACES, C.uint64_t(id), C.uint64_t(from), ids, room, count)
-	})
-}
-
-// ControlsInside is ControlsInside of a Table; it is not recorded.
-func (shared *Shared) ControlsInside(id, from uint64) ([]uint64, error) {
-	held := shared.held()
-	held.lock.RLock()
-	defer held.lock.RUnlock()
-	return idsOf(noControl(id), func(ids *C.uint64_t, room C.size_t, count *C.uint64_t) C.uint32_t {
-		return C.pidtab_record_inside(held.raw, C.PIDTAB_CONTROLS, C.uint64_t(id), C.uint64_t(from), ids, room, count)
-	})
-}
-
-// ControlTasks is ControlTasks of a Table; it is not recorded.
-func (shared *Shared) ControlTasks(caller uint32, control uint64, from uint32) ([]uint32, error) {
-	held := shared.held()
-	held.lock.RLock()
-	defer held.lock.RUnlock()
-	found, err := allOf(func(numbers *C.uint32_t, room C.size_t, reply *C.struct_pidtab_reply) C.uint32_t {
-		return C.pidtab_record_control_tasks(held.raw, C.uint32_t(caller), C.uint64_t(control), C.uint32_t(from), numbers, room, reply)
-	})
-	return found, withCall(err, "control tasks", uint64(caller), control, uint64(from))
-}
-
-// Would is Would of a Table; it is not recorded.
-func (shared *Shared) Would(call Call) (Reply, error) {
-	held, numbers, reply := shared.held(), call.numbers(), new(C.struct_pidtab_reply)
-	held.lock.RLock()
-	defer held.lock.RUnlock()
-	if err := named(C.pidtab_record_would(held.raw, &numbers, reply), call.rangeFault); err != nil {
-		return Reply{}, err
-	}
-	return replyOf(reply), nil
-}
-
-// The end of questions of a shared table.
+// The end of questions.

@@ -49,8 +49,9 @@ type bound struct {
 
 // Written by tools/interface: ranges.
 
-// The bounds of pid_max.
+// The bounds of pid_max, and what it is where none is given.
 const (
+	defaultPidMax  = 32768
 	leastPidMax    = 301
 	greatestPidMax = 4194304
 )
@@ -75,28 +76,23 @@ func outside[T, L, G any](argument string, value T, least L, greatest G) error {
 	return RangeError{argument, fmt.Sprint(value), fmt.Sprintf("%v to %v", least, greatest)}
 }
 
-// pidMaxRange is why a table is not opened with the bound of its numbers; nothing where it may be.
-func pidMaxRange(argument string, pidMax uint32) error {
-	if pidMax < leastPidMax || pidMax > greatestPidMax {
-		return outside(argument, pidMax, leastPidMax, greatestPidMax)
-	}
-	return nil
-}
-
-// workersRange is why a table has not so many workers; nothing where it may have.
-func workersRange(argument string, workers int) error {
-	if workers < 1 || workers > C.PIDTAB_MOST_WORKERS {
-		return outside(argument, workers, 1, C.PIDTAB_MOST_WORKERS)
-	}
-	return nil
-}
-
 // rangeFault is why no table has the settings; nothing where one has them.
 func (settings Settings) rangeFault() error {
-	if err := pidMaxRange("Settings.PidMax", settings.PidMax); err != nil {
-		return err
+	if settings.PidMax < leastPidMax || settings.PidMax > greatestPidMax {
+		return outside("Settings.PidMax", settings.PidMax, leastPidMax, greatestPidMax)
 	}
-	return workersRange("Settings.Workers", int(settings.Workers))
+	return settings.workersFault()
+}
+
+// workersFault is why no table has so many workers; nothing where one has them.
+func (settings Settings) workersFault() error {
+	if settings.Workers > C.PIDTAB_MOST_WORKERS {
+		return outside("Settings.Workers", settings.Workers, 1, C.PIDTAB_MOST_WORKERS)
+	}
+	if settings.Workers > 1 && settings.Keep == 0 {
+		return RangeError{"Settings.Workers", fmt.Sprint(settings.Workers), "1: workers count the calls of a history: open it with keep"}
+	}
+	return nil
 }
 
 // rangeFault is why the value is no call; nothing where it is one.
@@ -131,16 +127,16 @@ func callsFault(calls []Call) error {
 }
 
 // workerFault is why there is no such worker; nothing where there is.
-func (held *heldRecord) workerFault(argument string, worker uint32) error {
-	if worker >= held.settings.Workers {
-		return outside(argument, worker, 0, held.settings.Workers-1)
+func (settings Settings) workerFault(argument string, worker uint32) error {
+	if worker >= settings.Workers {
+		return outside(argument, worker, 0, settings.Workers-1)
 	}
 	return nil
 }
 
 // entryFault is why the entry is not made again: its worker, or its call.
-func (held *heldRecord) entryFault(entry Entry) error {
-	if err := held.workerFault("Entry.Worker", entry.Worker); err != nil {
+func (settings Settings) entryFault(entry Entry) error {
+	if err := settings.workerFault("Entry.Worker", entry.Worker); err != nil {
 		return err
 	}
 	return entry.Call.rangeFault()

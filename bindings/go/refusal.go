@@ -11,7 +11,7 @@ import (
 	"syscall"
 )
 
-// Why a call was not made, or another function not done. The table and its history are as they were, but where a Replay has ErrDiffers.
+// Why a call was not made, or another function not done. The table and its history are as they were, except where a Replay has ErrDiffers.
 var (
 	// ErrClosed is os.ErrClosed too, by errors.Is.
 	ErrClosed     = error(&special{"pidtab: the table is closed", os.ErrClosed})
@@ -23,10 +23,11 @@ var (
 	ErrNoNamespace = error(&special{"pidtab: no namespace has the id", ErrOutOfRange})
 	ErrEmptyLine   = errors.New("pidtab: an empty line has no answer")
 	ErrBadLine     = errors.New("pidtab: bad line")
-	ErrBusy        = errors.New("pidtab: busy: a thread that is not here is in a call, as in the forked child of a process with threads")
+	ErrBusy        = errors.New("pidtab: busy: another goroutine uses the table, which was opened without Threads; or a thread of which a forked child has only the mark")
 	ErrNotKept     = errors.New("pidtab: no entry with the ordinal is kept: it was cut away, or is not reached yet")
 	ErrAgain       = errors.New("pidtab: another number of calls was recorded by now")
-	ErrNoHistory   = errors.New("pidtab: the table keeps no history")
+	ErrNoHistory   = errors.New("pidtab: this table keeps no history: open it with keep")
+	ErrNoThreads   = errors.New("pidtab: this table is one thread's: open it with threads")
 	ErrDiffers     = errors.New("pidtab: a reply is not the saved one")
 	ErrUnsaved     = errors.New("pidtab: too many calls are not saved, and the saver has failed or ended")
 )
@@ -216,6 +217,8 @@ func faultOf(status uint32) error {
 		return ErrAgain
 	case C.PIDTAB_NO_HISTORY:
 		return ErrNoHistory
+	case C.PIDTAB_NO_THREADS:
+		return ErrNoThreads
 	case C.PIDTAB_NOT_SAVED:
 		return ErrNotSaved
 	case C.PIDTAB_ENDED:

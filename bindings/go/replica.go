@@ -76,7 +76,7 @@ type LogState struct {
 // LogDigest is the SHA-256 of all calls and answers up to an entry.
 type LogDigest [32]byte
 
-// OpenReplica makes a replica of a log that has not begun, whose table is one of Open with the same pidMax. The model is Model. ErrNoMemory.
+// OpenReplica makes a replica of a log that has not begun, whose table is one of Open with the same PidMax. The model is Model. ErrNoMemory.
 func OpenReplica(pidMax uint32, model uint64) (*Replica, error) {
 	if err := compareVersions(); err != nil {
 		return nil, err
@@ -107,8 +107,10 @@ func (replica *Replica) Apply(table *Table, position uint64, entry []byte) (Appl
 	}
 	held.lock.Lock()
 	defer held.lock.Unlock()
-	of.lock.Lock()
-	defer of.lock.Unlock()
+	if !of.enter() {
+		return Applied{}, ErrBusy
+	}
+	defer of.Unlock()
 	status := C.pidtab_replica_apply(&held.raw, &of.raw, C.uint64_t(position), unsafe.Pointer(&bytes[0]), C.size_t(len(entry)), applied)
 	if err := replicaFaultOf(status); err != nil {
 		return Applied{}, err

@@ -26,7 +26,7 @@ func openReplica(t *testing.T, pidMax uint32) logWorld {
 		t.Fatal(err)
 	}
 	t.Cleanup(replica.Close)
-	return logWorld{t, replica, open(t, pidMax)}
+	return logWorld{t, replica, open(t, Settings{PidMax: pidMax})}
 }
 
 // apply applies an entry: what became of it, and its answers.
@@ -176,7 +176,7 @@ func TestAReplicaThatIsClosed(t *testing.T) {
 	it.replica.Close()
 	it.replica.Close()
 	for _, replica := range []*Replica{it.replica, new(Replica)} {
-		_, applies := replica.Apply(open(t, 32768), 1, []byte(logSettings))
+		_, applies := replica.Apply(open(t, Settings{}), 1, []byte(logSettings))
 		_, answers := replica.Answers()
 		_, log := replica.Log()
 		_, digest := replica.Digest(1)

@@ -44,12 +44,12 @@ func (fault SavedError) Unwrap() error {
 	return fault.Err
 }
 
-// Saved is how far a history is saved, for Shared.Save: what a writer was given, and the running checksum. Each writer has its own. The zero value
-// is a history of which nothing is saved; LoadShared and ResumeShared give one too. Goroutines may share it, and it is never copied. Its methods
+// Saved is how far a history is saved, for Table.Save: what a writer was given, and the running checksum. Each writer has its own. The zero value
+// is a history of which nothing is saved; Load and Resume give one too. Goroutines may share it, and it is never copied. Its methods
 // wait for a save that is under way.
 type Saved struct {
 	lock    sync.Mutex
-	held    *heldRecord // the table whose history it is; none before the first save
+	of      *body // the table whose history it is; none before the first save
 	calls   uint64
 	bytes   uint64
 	leftOut uint64
@@ -80,7 +80,7 @@ func (saved *Saved) LeftOut() uint64 {
 }
 
 // Trim cuts off the file what is after the last whole call: a torn end that a load has left out, or what a write that failed has left. Then the
-// file's offset is its end, and a save goes on there. ResumeShared does so.
+// file's offset is its end, and a save goes on there. Resume does so.
 func (saved *Saved) Trim(file *os.File) error {
 	saved.lock.Lock()
 	defer saved.lock.Unlock()
@@ -95,83 +95,82 @@ func (saved *Saved) Trim(file *os.File) error {
 }
 
 // Save writes the calls that were recorded since, and perhaps some that are recorded meanwhile; to a zero Saved the head comes first. So what is
-// saved is always the history up to one moment. Other goroutines make calls meanwhile: the lock of the table is held while up to 512 entries are
+// saved is always the history up to one moment. Other goroutines make calls meanwhile: the table is taken while up to 512 entries are
 // copied, and for no write. Goroutines that save to one Saved take turns. At its end it wakes those in WaitSaved.
 //
 // What an *os.File was given survives the process, and after its Sync the machine. A call that is saved may be cut, by CheckpointAt with
 // Saved.Calls.
 //
 // Each error is a SavedError. After that of the writer, the next Save to the same writer goes on with the byte that is missing, so nothing is lost
-// or doubled. ErrNotKept where the next call to be saved was cut away, and of a table of SharedFromDump; ErrOtherTable; ErrTorn where a load has left out a torn end that is not
-// trimmed; ErrClosed, ErrBusy; ErrNil.
-func (shared *Shared) Save(to io.Writer, saved *Saved) error {
+// or doubled. ErrNotKept where the next call to be saved was cut away, and of a table of FromDump; ErrNoHistory; ErrOtherTable; ErrTorn where a load has left out a torn
+// end that is not trimmed; ErrClosed, ErrBusy; ErrNil.
+func (table *Table) Save(to io.Writer, saved *Saved) error {
 	if to == nil || saved == nil {
 		return SavedError{Err: ErrNil}
 	}
 	saved.lock.Lock()
 	defer saved.lock.Unlock()
-	return shared.held().tell(saved, shared.save(to, saved))
+	return table.held().tell(saved, table.save(to, saved))
 }
 
-// LoadShared makes a table of a saved history, which is read to its end. It has the settings of the head, no seat is given, and each call is made
+// Load makes a table of a saved history, which is read to its end. It has the settings of the head, no seat is given, and each call is made
 // again, and its reply compared with the saved one. It costs what the calls cost.
 //
-// A torn end, which is that of a writer that was stopped, is left out: Saved.LeftOut is its length. Where keep is not 0, the history is cut
-// whenever it has so many entries; later it is not.
+// Of the settings it looks at two: Threads, and Keep. Where that is not KeepAll, the history is cut whenever it has so many entries while it is loaded. What
+// is recorded later is kept, as it is not saved yet: Settings.Keep of the table is KeepAll.
+//
+// A torn end, which is that of a writer that was stopped, is left out: Saved.LeftOut is its length.
 //
 // Each error is a SavedError, with the place of the call at fault: ErrTorn where there is no whole head, ErrNotSaved, ErrOtherVersion, ErrWrongByte,
-// ErrBadSettings; ErrDiffers where its reply is another one; ErrOutOfRange, ErrSpent or ErrNoMemory where it was not made; or that of the reader. ErrNil.
-func LoadShared(from io.Reader, keep uint64) (*Shared, *Saved, error) {
+// ErrBadSettings; ErrDiffers where its reply is another one; ErrOutOfRange, ErrSpent or ErrNoMemory where it was not made; or that of the reader.
+// ErrNoHistory where Keep is 0; ErrNil.
+func Load(from io.Reader, settings Settings) (*Table, *Saved, error) {
 	saved := new(Saved)
 	if from == nil {
 		return nil, nil, saved.at(ErrNil)
 	}
-	shared, err := loadInto(saved, from, keep)
+	table, err := loadInto(saved, from, settings)
 	if err != nil {
 		return nil, nil, saved.at(err)
 	}
-	return shared, saved, nil
+	return table, saved, nil
 }
 
-// ResumeShared is LoadShared from the beginning of a file, which then goes on: a torn end is cut off, and the file's offset is its end.
+// Resume is Load from the beginning of a file, which then goes on: a torn end is cut off, and the file's offset is its end.
 //
-// A file that is empty, or ends within its head, is begun, and the table has these settings. Those of another file are its own. After this,
-// Settings.Keep is never used: no call is cut unasked that is not saved.
+// A file that is empty, or ends within its head, is begun, and the table has these settings, with KeepAll. Those of another file are its own.
 //
-// The file is opened to be read and to be written, as by os.O_RDWR|os.O_CREATE. One process at a time has it. The errors are those of LoadShared except
+// The file is opened to be read and to be written, as by os.O_RDWR|os.O_CREATE. One process at a time has it. The errors are those of Load except
 // ErrTorn, ErrOutOfRange for settings outside their ranges, and those of the file. ErrNil.
-func ResumeShared(file *os.File, settings Settings) (*Shared, *Saved, error) {
+func Resume(file *os.File, settings Settings) (*Table, *Saved, error) {
 	saved := new(Saved)
 	if file == nil {
 		return nil, nil, saved.at(ErrNil)
 	}
-	shared, err := resumeInto(saved, file, settings)
+	table, err := resumeInto(saved, file, settings)
 	if err != nil {
 		return nil, nil, saved.at(err)
 	}
-	return shared, saved, nil
+	return table, saved, nil
 }
 
 // save saves. The lock of what is saved is held, here and below.
-func (shared *Shared) save(to io.Writer, saved *Saved) error {
-	held := shared.held()
-	if saved.held != nil && saved.held != held {
+func (table *Table) save(to io.Writer, saved *Saved) error {
+	held := table.held()
+	if saved.of != nil && saved.of != held.body {
 		return ErrOtherTable
 	}
 	if saved.isTorn {
 		return ErrTorn
 	}
-	if held.goesOn {
-		return ErrNotKept
-	}
-	counts, err := shared.Counts()
-	if err == nil && saved.calls < counts.FirstKept {
+	counts, err := table.Counts()
+	if err == nil && (held.goesOn || saved.calls < counts.FirstKept) {
 		err = ErrNotKept
 	}
 	if err != nil {
 		return err
 	}
-	saved.held = held
+	saved.of = held.body
 	if saved.bytes == 0 {
 		err = saved.writeHead(to, held.settings)
 	}
@@ -179,13 +178,15 @@ func (shared *Shared) save(to io.Writer, saved *Saved) error {
 		return err
 	}
 	return saved.writeUpTo(counts.Recorded, to, func(from uint64, room []C.struct_pidtab_entry) (int, error) {
-		held.lock.RLock()
-		defer held.lock.RUnlock()
+		if !held.share() {
+			return 0, ErrBusy
+		}
+		defer held.RUnlock()
 		return held.read(from, room)
 	})
 }
 
-// How many entries are read under the lock at a time, as a goroutine that saves has to wait for it among all that make calls; and how many are
+// How many entries are read at a time, as a goroutine that saves has to wait for the table among all that make calls; and how many are
 // written at a time.
 const (
 	aTurn  = 512
@@ -297,27 +298,31 @@ func (saved *Saved) leaveOut(count uint64) {
 }
 
 // loadInto opens a table by the head, and makes the calls after it.
-func loadInto(saved *Saved, from io.Reader, keep uint64) (*Shared, error) {
+func loadInto(saved *Saved, from io.Reader, settings Settings) (*Table, error) {
+	if settings.Keep == 0 {
+		return nil, ErrNoHistory
+	}
 	in := &input{from: from, room: make([]byte, 1<<13)}
-	settings, err := in.takeHead(saved)
+	head, err := in.takeHead(saved)
 	if err != nil {
 		return nil, err
 	}
-	settings.Keep = keep
-	shared, err := OpenShared(settings)
+	head.Threads = settings.Threads
+	table, err := Open(head)
 	if err != nil {
 		return nil, err
 	}
-	if err := shared.own.makeAgain(saved, in); err != nil {
-		shared.Close()
+	held := table.held()
+	if err := held.makeAgain(saved, in, settings.Keep); err != nil {
+		table.Close()
 		return nil, err
 	}
-	saved.held, shared.own.settings.Keep, shared.own.saving.saved = shared.own, 0, saved.calls
-	return shared, nil
+	saved.of, held.saving.saved = held.body, saved.calls
+	return table, nil
 }
 
-// makeAgain makes the calls of the entries to the end. No other goroutine has the record yet.
-func (held *heldRecord) makeAgain(saved *Saved, in *input) error {
+// makeAgain makes the calls of the entries to the end. No other goroutine has the table yet.
+func (held *heldTable) makeAgain(saved *Saved, in *input, keep uint64) error {
 	var entry C.struct_pidtab_entry
 	for {
 		size, err := in.takeEntry(saved, &entry)
@@ -325,36 +330,38 @@ func (held *heldRecord) makeAgain(saved *Saved, in *input) error {
 			return err
 		}
 		var place C.size_t
-		status := C.pidtab_record_replay(held.raw, &entry, 1, &place)
+		status := C.pidtab_replay(&held.raw, &entry, 1, &place)
 		if err := faultOf(uint32(status)); err != nil {
 			return err
 		}
-		held.cutWhereLong()
+		if keep != KeepAll {
+			C.pidtab_keep(&held.raw, C.uint64_t(keep))
+		}
 		saved.calls++
 		saved.bytes += uint64(size)
 	}
 }
 
-func resumeInto(saved *Saved, file *os.File, settings Settings) (*Shared, error) {
+func resumeInto(saved *Saved, file *os.File, settings Settings) (*Table, error) {
 	if _, err := file.Seek(0, io.SeekStart); err != nil {
 		return nil, err
 	}
-	shared, err := loadInto(saved, file, settings.Keep)
+	table, err := loadInto(saved, file, settings)
 	if err == ErrTorn {
-		settings.Keep = 0
-		shared, err = OpenShared(settings)
+		settings.Keep = KeepAll
+		table, err = Open(settings)
 	}
 	if err != nil {
 		return nil, err
 	}
 	if err = saved.Trim(file); err == nil {
-		err = shared.save(file, saved)
+		err = table.save(file, saved)
 	}
 	if err != nil {
-		shared.Close()
+		table.Close()
 		return nil, err
 	}
-	return shared, nil
+	return table, nil
 }
 
 // An input is what was read of a saved history, from start to end of the room, and is not taken yet.
@@ -395,7 +402,7 @@ func (in *input) takeHead(saved *Saved) (Settings, error) {
 	case C.PIDTAB_DONE:
 		in.start += int(size)
 		saved.bytes = uint64(size)
-		return Settings{PidMax: uint32(head.pid_max), Workers: uint32(head.workers), FirstStamp: uint64(head.first_stamp)}, nil
+		return Settings{PidMax: uint32(head.pid_max), Workers: uint32(head.workers), FirstStamp: uint64(head.first_stamp), Keep: KeepAll}, nil
 	case C.PIDTAB_OUT_OF_RANGE:
 		return Settings{}, ErrBadSettings
 	case C.PIDTAB_TORN:

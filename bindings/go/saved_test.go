@@ -64,11 +64,11 @@ func answers(t *testing.T, seat *Seat, lines ...string) {
 }
 
 // example has the calls of docs/SAVED.md.
-func example(t *testing.T) *Shared {
-	shared := openShared(t, Settings{PidMax: 32768, Workers: 2})
-	answers(t, seatOf(t, shared), "fork 1 new")
-	answers(t, seatOf(t, shared), "nspid 1 2", "setpgid 1 0 -1")
-	return shared
+func example(t *testing.T) *Table {
+	kept := open(t, withHistory(2))
+	answers(t, seatOf(t, kept), "fork 1 new")
+	answers(t, seatOf(t, kept), "nspid 1 2", "setpgid 1 0 -1")
+	return kept
 }
 
 // A task in six namespaces, and one in seventeen: its nspid has one block more, and two.
@@ -83,46 +83,46 @@ var lines = []string{
 }
 
 // whole is a table with calls of each kind, of two workers, and their bytes.
-func whole(t *testing.T) (*Shared, []byte) {
+func whole(t *testing.T) (*Table, []byte) {
 	t.Helper()
-	shared := openShared(t, Settings{PidMax: 32768, Workers: 2})
-	seat := seatOf(t, shared)
+	table := open(t, withHistory(2))
+	seat := seatOf(t, table)
 	for number := 1; number < deep; number++ {
 		answers(t, seat, "fork "+decimal(number)+" new")
 	}
-	answers(t, seatOf(t, shared), lines...)
-	return shared, bytesOf(t, shared)
+	answers(t, seatOf(t, table), lines...)
+	return table, bytesOf(t, table)
 }
 
-func save(t *testing.T, shared *Shared, to io.Writer, saved *Saved) {
+func save(t *testing.T, table *Table, to io.Writer, saved *Saved) {
 	t.Helper()
-	if err := shared.Save(to, saved); err != nil {
+	if err := table.Save(to, saved); err != nil {
 		t.Error(err)
 	}
 }
 
 // bytesOf is what a new save writes.
-func bytesOf(t *testing.T, shared *Shared) []byte {
+func bytesOf(t *testing.T, table *Table) []byte {
 	t.Helper()
 	var file bytes.Buffer
-	save(t, shared, &file, new(Saved))
+	save(t, table, &file, new(Saved))
 	return file.Bytes()
 }
 
-func load(t *testing.T, saved []byte) (*Shared, *Saved) {
+func load(t *testing.T, saved []byte) (*Table, *Saved) {
 	t.Helper()
-	shared, loaded, err := LoadShared(bytes.NewReader(saved), 0)
+	table, loaded, err := Load(bytes.NewReader(saved), withHistory(1))
 	if err != nil {
 		t.Fatal(err)
 	}
-	t.Cleanup(shared.Close)
-	return shared, loaded
+	t.Cleanup(table.Close)
+	return table, loaded
 }
 
 // wantFault says that the bytes do not load, with the fault and its place.
 func wantFault(t *testing.T, saved []byte, err error, calls, place int) {
 	t.Helper()
-	_, _, found := LoadShared(bytes.NewReader(saved), 0)
+	_, _, found := Load(bytes.NewReader(saved), withHistory(1))
 	want(t, "fault", only(found), nil, SavedError{uint64(calls), uint64(place), err})
 	if !errors.Is(found, err) {
 		t.Error(found)
@@ -134,16 +134,16 @@ func wantSaved(t *testing.T, saved *Saved, calls, bytes, leftOut int) {
 	want(t, "saved", of([3]uint64{saved.Calls(), saved.Bytes(), saved.LeftOut()}, nil), [3]uint64{uint64(calls), uint64(bytes), uint64(leftOut)}, nil)
 }
 
-func entriesOf(t *testing.T, shared *Shared) []Entry {
+func entriesOf(t *testing.T, table *Table) []Entry {
 	t.Helper()
-	entries, err := shared.Entries(0, math.MaxInt)
+	entries, err := table.Entries(0, math.MaxInt)
 	if err != nil {
 		t.Fatal(err)
 	}
 	return entries
 }
 
-func wantSame(t *testing.T, one, other *Shared) {
+func wantSame(t *testing.T, one, other *Table) {
 	t.Helper()
 	want(t, "entries", of(one.Entries(0, math.MaxInt)), entriesOf(t, other), nil)
 	list, err := other.List()
@@ -198,36 +198,36 @@ func wantFile(t *testing.T, file *os.File, wanted []byte) {
 	}
 }
 
-func resume(t *testing.T, file *os.File, settings Settings) (*Shared, *Saved) {
+func resume(t *testing.T, file *os.File, settings Settings) (*Table, *Saved) {
 	t.Helper()
-	shared, saved, err := ResumeShared(file, settings)
+	table, saved, err := Resume(file, settings)
 	if err != nil {
 		t.Fatal(err)
 	}
-	t.Cleanup(shared.Close)
-	return shared, saved
+	t.Cleanup(table.Close)
+	return table, saved
 }
 
 func TestTheExampleIsWrittenAndRead(t *testing.T) {
 	if check := crcOf([]byte("123456789")); check != 0x995dc9bbdf1939fa || !bytes.Equal(sealed(pageBytes(t)), pageBytes(t)) {
 		t.Error(check)
 	}
-	shared, saved := example(t), new(Saved)
+	table, saved := example(t), new(Saved)
 	var file bytes.Buffer
-	save(t, shared, &file, saved)
+	save(t, table, &file, saved)
 	wantSaved(t, saved, 3, 192, 0)
 	want(t, "bytes", of(file.Bytes(), nil), pageBytes(t), nil)
 	again, loaded := load(t, pageBytes(t))
 	wantSaved(t, loaded, 3, 192, 0)
-	want(t, "settings", of(again.Settings(), nil), Settings{32768, 2, 1, 0}, nil)
+	want(t, "settings", of(again.Settings(), nil), Settings{32768, 2, 1, KeepAll, true}, nil)
 	if worker := seatOf(t, again).Worker(); worker != 0 {
 		t.Error(worker)
 	}
-	wantSame(t, again, shared)
+	wantSame(t, again, table)
 }
 
 func TestSavedCallsOfEachKind(t *testing.T) {
-	shared, saved := whole(t)
+	kept, saved := whole(t)
 	places := placesOf(saved)
 	sizes := map[int]bool{}
 	for i := range places[1:] {
@@ -238,13 +238,13 @@ func TestSavedCallsOfEachKind(t *testing.T) {
 	}
 	again, loaded := load(t, saved)
 	wantSaved(t, loaded, len(places)-1, len(saved), 0)
-	wantSame(t, again, shared)
+	wantSame(t, again, kept)
 }
 
 // An append is what one save writes, and a loaded table goes on as the saved one.
 func TestWhatGoesOnIsWhatOneTableSaves(t *testing.T) {
-	shared, wanted := whole(t)
-	one, saved := openShared(t, Settings{PidMax: 32768, Workers: 2}), new(Saved)
+	table, wanted := whole(t)
+	one, saved := open(t, withHistory(2)), new(Saved)
 	seat, other := seatOf(t, one), seatOf(t, one)
 	var file bytes.Buffer
 	for number := 1; number < deep; number++ {
@@ -259,18 +259,18 @@ func TestWhatGoesOnIsWhatOneTableSaves(t *testing.T) {
 	answers(t, seatOf(t, again), lines[5:]...)
 	save(t, again, &file, loaded)
 	want(t, "bytes", of(file.Bytes(), nil), wanted, nil)
-	wantSame(t, again, shared)
+	wantSame(t, again, table)
 }
 
 func TestCutAtEachByte(t *testing.T) {
-	shared, saved := whole(t)
-	places, entries := placesOf(saved), entriesOf(t, shared)
+	table, saved := whole(t)
+	places, entries := placesOf(saved), entriesOf(t, table)
 	for length := range saved {
 		if length < blockSize {
 			wantFault(t, saved[:length], ErrTorn, 0, 0)
 			continue
 		}
-		again, loaded, err := LoadShared(bytes.NewReader(saved[:length]), 0)
+		again, loaded, err := Load(bytes.NewReader(saved[:length]), withHistory(1))
 		if err != nil {
 			t.Fatal(length, err)
 		}
@@ -286,11 +286,11 @@ func TestCutAtEachByte(t *testing.T) {
 }
 
 func TestAFileThatIsCutGoesOn(t *testing.T) {
-	shared, wanted := whole(t)
-	places, entries := placesOf(wanted), entriesOf(t, shared)
+	table, wanted := whole(t)
+	places, entries := placesOf(wanted), entriesOf(t, table)
 	for length := 0; length < len(wanted); length += 7 {
 		file := fileOf(t, wanted[:length])
-		again, saved := resume(t, file, Settings{PidMax: 32768, Workers: 2})
+		again, saved := resume(t, file, withHistory(2))
 		calls, left := callsBelow(places, length), 0
 		if length >= blockSize {
 			left = places[calls]
@@ -314,7 +314,7 @@ func TestZeroesAtTheEnd(t *testing.T) {
 		_, loaded := load(t, longer)
 		wantSaved(t, loaded, calls, len(saved), zeroes)
 		file := fileOf(t, longer)
-		resume(t, file, Settings{})
+		resume(t, file, Settings{Keep: 1})
 		wantFile(t, file, saved)
 		if zeroes > blockSize {
 			wantFault(t, append(longer, 1), ErrWrongByte, calls, len(saved))
@@ -387,11 +387,11 @@ func TestHeadsOfNoTable(t *testing.T) {
 }
 
 func TestEntriesThatAreCutAsTheyLoad(t *testing.T) {
-	shared := openShared(t, Settings{PidMax: 32768, Workers: 1})
-	seat := seatOf(t, shared)
+	table := open(t, withHistory(1))
+	seat := seatOf(t, table)
 	forked(t, seat, 100)
-	file := bytes.NewBuffer(bytesOf(t, shared))
-	again, saved, err := LoadShared(bytes.NewReader(file.Bytes()), 10)
+	file := bytes.NewBuffer(bytesOf(t, table))
+	again, saved, err := Load(bytes.NewReader(file.Bytes()), Settings{Keep: 10})
 	if err != nil {
 		t.Fatal(err)
 	}
@@ -401,7 +401,7 @@ func TestEntriesThatAreCutAsTheyLoad(t *testing.T) {
 	forked(t, seat, 20)
 	wantCounts(t, again, 90, 120)
 	save(t, again, file, saved)
-	want(t, "bytes", of(file.Bytes(), nil), bytesOf(t, shared), nil)
+	want(t, "bytes", of(file.Bytes(), nil), bytesOf(t, table), nil)
 }
 
 var errDevice = errors.New("the device failed")
@@ -430,11 +430,11 @@ func (it *device) Read(to []byte) (int, error) {
 
 // After a write that failed at each byte, the next save goes on with the same byte.
 func TestAWriterThatFailsAfterEachByte(t *testing.T) {
-	shared, wanted := whole(t)
+	table, wanted := whole(t)
 	places := placesOf(wanted)
 	for length := range wanted {
 		file, saved := new(bytes.Buffer), new(Saved)
-		err := shared.Save(&device{file, length}, saved)
+		err := table.Save(&device{file, length}, saved)
 		var fault SavedError
 		if !errors.Is(err, errDevice) || !errors.As(err, &fault) || fault.Bytes != saved.Bytes() || file.Len() != length {
 			t.Error(length, err)
@@ -442,7 +442,7 @@ func TestAWriterThatFailsAfterEachByte(t *testing.T) {
 		if length >= 48 && saved.Calls() != uint64(callsBelow(places, length)) {
 			t.Error(length, saved.Calls())
 		}
-		save(t, shared, &device{file, math.MaxInt}, saved)
+		save(t, table, &device{file, math.MaxInt}, saved)
 		if !bytes.Equal(file.Bytes(), wanted) || saved.Bytes() != uint64(len(wanted)) {
 			t.Error(length)
 		}
@@ -450,14 +450,14 @@ func TestAWriterThatFailsAfterEachByte(t *testing.T) {
 }
 
 func TestAWriterThatFailsAmidCalls(t *testing.T) {
-	shared := openShared(t, Settings{PidMax: 32768, Workers: 1})
-	seat, file, saved := seatOf(t, shared), new(bytes.Buffer), new(Saved)
+	table := open(t, withHistory(1))
+	seat, file, saved := seatOf(t, table), new(bytes.Buffer), new(Saved)
 	for i := 0; i < 200; i++ {
 		answers(t, seat, "fork 1", "nspid 1 1", "getpid 1")
-		shared.Save(&device{file, i % 11 * 13}, saved)
+		table.Save(&device{file, i % 11 * 13}, saved)
 	}
-	save(t, shared, file, saved)
-	want(t, "bytes", of(file.Bytes(), nil), bytesOf(t, shared), nil)
+	save(t, table, file, saved)
+	want(t, "bytes", of(file.Bytes(), nil), bytesOf(t, table), nil)
 }
 
 // A liar says of each write that it was so long.
@@ -466,35 +466,35 @@ type liar int
 func (it liar) Write([]byte) (int, error) { return int(it), nil }
 
 func TestWritersThatBreakTheirRules(t *testing.T) {
-	shared := example(t)
-	want(t, "nothing", only(shared.Save(liar(0), new(Saved))), nil, SavedError{0, 0, io.ErrShortWrite})
+	table := example(t)
+	want(t, "nothing", only(table.Save(liar(0), new(Saved))), nil, SavedError{0, 0, io.ErrShortWrite})
 	for _, count := range []liar{-1, 49, math.MaxInt} {
 		saved := new(Saved)
-		if err := shared.Save(count, saved); err == nil || saved.Bytes() != 0 {
+		if err := table.Save(count, saved); err == nil || saved.Bytes() != 0 {
 			t.Error(count, err)
 		}
 	}
 }
 
 func TestAReaderThatFailsAfterEachByte(t *testing.T) {
-	shared, saved := whole(t)
+	table, saved := whole(t)
 	for left := range saved {
-		if _, _, err := LoadShared(&device{bytes.NewBuffer(saved), left}, 0); !errors.Is(err, errDevice) {
+		if _, _, err := Load(&device{bytes.NewBuffer(saved), left}, withHistory(1)); !errors.Is(err, errDevice) {
 			t.Error(left, err)
 		}
 	}
-	again, _, err := LoadShared(&device{bytes.NewBuffer(saved), math.MaxInt}, 0)
+	again, _, err := Load(&device{bytes.NewBuffer(saved), math.MaxInt}, withHistory(1))
 	if err != nil {
 		t.Fatal(err)
 	}
 	t.Cleanup(again.Close)
-	wantSame(t, again, shared)
+	wantSame(t, again, table)
 }
 
 // A reader that ends too early by its own word is a fault, and no torn end.
 func TestAReaderThatEndsUnexpectedly(t *testing.T) {
 	cut := io.MultiReader(bytes.NewReader(pageBytes(t)[:100]), failing{io.ErrUnexpectedEOF})
-	_, _, err := LoadShared(cut, 0)
+	_, _, err := Load(cut, withHistory(1))
 	want(t, "fault", only(err), nil, SavedError{0, 0, io.ErrUnexpectedEOF})
 }
 
@@ -510,13 +510,13 @@ func TestWhatIsSavedOfAnotherTable(t *testing.T) {
 }
 
 func TestCallsThatWereCutAway(t *testing.T) {
-	shared, saved, file := example(t), new(Saved), new(bytes.Buffer)
-	save(t, shared, file, saved)
-	want(t, "cut", only(shared.CheckpointAt(saved.Calls())), nil, nil)
-	save(t, shared, file, saved)
+	table, saved, file := example(t), new(Saved), new(bytes.Buffer)
+	save(t, table, file, saved)
+	want(t, "cut", only(table.CheckpointAt(saved.Calls())), nil, nil)
+	save(t, table, file, saved)
 	want(t, "bytes", of(file.Bytes(), nil), pageBytes(t), nil)
 	file.Reset()
-	want(t, "too late", only(shared.Save(file, new(Saved))), nil, SavedError{0, 0, ErrNotKept})
+	want(t, "too late", only(table.Save(file, new(Saved))), nil, SavedError{0, 0, ErrNotKept})
 	if file.Len() != 0 {
 		t.Error(file.Len())
 	}
@@ -525,32 +525,32 @@ func TestCallsThatWereCutAway(t *testing.T) {
 func TestATornEndThatIsNotTrimmed(t *testing.T) {
 	file := fileOf(t, append(pageBytes(t), "torn"...))
 	file.Seek(0, io.SeekStart)
-	shared, saved, err := LoadShared(file, 0)
+	table, saved, err := Load(file, withHistory(1))
 	if err != nil {
 		t.Fatal(err)
 	}
-	t.Cleanup(shared.Close)
-	answers(t, seatOf(t, shared), "getpid 1")
-	want(t, "torn", only(shared.Save(file, saved)), nil, SavedError{3, 192, ErrTorn})
+	t.Cleanup(table.Close)
+	answers(t, seatOf(t, table), "getpid 1")
+	want(t, "torn", only(table.Save(file, saved)), nil, SavedError{3, 192, ErrTorn})
 	file.Seek(0, io.SeekStart)
 	want(t, "trim", only(saved.Trim(file)), nil, nil)
-	save(t, shared, file, saved)
-	wantFile(t, file, bytesOf(t, shared))
+	save(t, table, file, saved)
+	wantFile(t, file, bytesOf(t, table))
 }
 
 func TestFilesThatAreBegun(t *testing.T) {
 	file := fileOf(t, nil)
-	shared, saved := resume(t, file, Settings{PidMax: 400, Workers: 3, FirstStamp: 9, Keep: 1})
+	table, saved := resume(t, file, Settings{PidMax: 400, Workers: 3, FirstStamp: 9, Keep: 1})
 	wantSaved(t, saved, 0, 48, 0)
-	want(t, "mk", of(seatOf(t, shared).Mk(0)), uint64(9), nil)
-	save(t, shared, file, saved)
+	want(t, "mk", of(seatOf(t, table).Mk(0)), uint64(9), nil)
+	save(t, table, file, saved)
 	// The settings of the file are its own.
-	again, saved := resume(t, file, Settings{})
-	want(t, "settings", of(again.Settings(), nil), Settings{400, 3, 9, 0}, nil)
+	again, saved := resume(t, file, Settings{Keep: 5, Threads: true})
+	want(t, "settings", of(again.Settings(), nil), Settings{400, 3, 9, KeepAll, true}, nil)
 	wantSaved(t, saved, 1, 96, 0)
-	for _, settings := range []Settings{{PidMax: 300, Workers: 1}, {PidMax: 32768, Workers: 17}} {
+	for _, settings := range []Settings{{PidMax: 300, Keep: 1}, {Workers: 17, Keep: 1}} {
 		torn := fileOf(t, []byte("\x89pid"))
-		if _, _, err := ResumeShared(torn, settings); !errors.Is(err, ErrOutOfRange) {
+		if _, _, err := Resume(torn, settings); !errors.Is(err, ErrOutOfRange) {
 			t.Error(err)
 		}
 		wantFile(t, torn, []byte("\x89pid"))
@@ -569,10 +569,10 @@ func opened(t *testing.T, path string, flags int) *os.File {
 
 func TestWhatIsNoFile(t *testing.T) {
 	folder := opened(t, t.TempDir(), os.O_RDONLY)
-	if _, _, err := LoadShared(folder, 0); !errors.Is(err, syscall.EISDIR) {
+	if _, _, err := Load(folder, withHistory(1)); !errors.Is(err, syscall.EISDIR) {
 		t.Error(err)
 	}
-	if _, _, err := ResumeShared(folder, Settings{PidMax: 32768, Workers: 2}); !errors.Is(err, syscall.EISDIR) {
+	if _, _, err := Resume(folder, withHistory(2)); !errors.Is(err, syscall.EISDIR) {
 		t.Error(err)
 	}
 	if err := example(t).Save(opened(t, "/dev/full", os.O_WRONLY), new(Saved)); !errors.Is(err, syscall.ENOSPC) {
@@ -581,7 +581,7 @@ func TestWhatIsNoFile(t *testing.T) {
 	// What cannot be written is not begun, and not cut.
 	for _, saved := range [][]byte{nil, pageBytes(t)[:100]} {
 		file := fileOf(t, saved)
-		_, _, err := ResumeShared(opened(t, file.Name(), os.O_RDONLY), Settings{PidMax: 32768, Workers: 2})
+		_, _, err := Resume(opened(t, file.Name(), os.O_RDONLY), withHistory(2))
 		var path *os.PathError
 		if !errors.As(err, &path) {
 			t.Error(err)
@@ -593,7 +593,7 @@ func TestWhatIsNoFile(t *testing.T) {
 func TestAFileThatDoesNotLoadStaysAsItIs(t *testing.T) {
 	for _, saved := range [][]byte{changed(t, 72, 3), []byte("fork 1\n"), append(pageBytes(t), bytes.Repeat([]byte{1}, 48)...)} {
 		file := fileOf(t, saved)
-		if shared, _, err := ResumeShared(file, Settings{PidMax: 32768, Workers: 2}); err == nil || shared != nil {
+		if table, _, err := Resume(file, withHistory(2)); err == nil || table != nil {
 			t.Error(err)
 		}
 		wantFile(t, file, saved)
@@ -601,20 +601,20 @@ func TestAFileThatDoesNotLoadStaysAsItIs(t *testing.T) {
 }
 
 func TestASaveOfAClosedTable(t *testing.T) {
-	shared, saved, file := example(t), new(Saved), new(bytes.Buffer)
-	save(t, shared, file, saved)
-	shared.Close()
-	want(t, "closed", only(shared.Save(file, saved)), nil, SavedError{3, 192, ErrClosed})
-	want(t, "none", only(new(Shared).Save(file, new(Saved))), nil, SavedError{0, 0, ErrClosed})
+	table, saved, file := example(t), new(Saved), new(bytes.Buffer)
+	save(t, table, file, saved)
+	table.Close()
+	want(t, "closed", only(table.Save(file, saved)), nil, SavedError{3, 192, ErrClosed})
+	want(t, "none", only(new(Table).Save(file, new(Saved))), nil, SavedError{0, 0, ErrClosed})
 	want(t, "bytes", of(file.Bytes(), nil), pageBytes(t), nil)
 }
 
 // As in a forked child, where the thread whose call was under way is not.
 func TestASaveAmidACallThatDoesNotEnd(t *testing.T) {
-	shared, file := example(t), new(bytes.Buffer)
-	shared.own.raw.in_use = 255
-	want(t, "busy", only(shared.Save(file, new(Saved))), nil, SavedError{0, 0, ErrBusy})
-	shared.own.raw.in_use = 0
+	table, file := example(t), new(bytes.Buffer)
+	table.held().raw.in_use = 255
+	want(t, "busy", only(table.Save(file, new(Saved))), nil, SavedError{0, 0, ErrBusy})
+	table.held().raw.in_use = 0
 	if file.Len() != 0 {
 		t.Error(file.Len())
 	}
@@ -622,14 +622,14 @@ func TestASaveAmidACallThatDoesNotEnd(t *testing.T) {
 
 // A slow writer waits until a call of another goroutine is answered: it stops nobody.
 type slow struct {
-	shared *Shared
-	of     bytes.Buffer
+	table *Table
+	of    bytes.Buffer
 }
 
 func (it *slow) Write(from []byte) (int, error) {
 	answered := make(chan error)
 	go func() {
-		_, err := it.shared.Counts()
+		_, err := it.table.Counts()
 		answered <- err
 	}()
 	if err := <-answered; err != nil {
@@ -639,14 +639,14 @@ func (it *slow) Write(from []byte) (int, error) {
 }
 
 func TestASlowWriterStopsNobody(t *testing.T) {
-	it := &slow{shared: example(t)}
-	save(t, it.shared, it, new(Saved))
+	it := &slow{table: example(t)}
+	save(t, it.table, it, new(Saved))
 	want(t, "bytes", of(it.of.Bytes(), nil), pageBytes(t), nil)
 }
 
 // Each save amid the calls of others is a history of one moment, and at last it is that of the table.
 func TestSavesAmidCalls(t *testing.T) {
-	shared, saved, file := openShared(t, Settings{PidMax: 32768, Workers: 8}), new(Saved), new(bytes.Buffer)
+	table, saved, file := open(t, withHistory(8)), new(Saved), new(bytes.Buffer)
 	var busy sync.WaitGroup
 	for i := 0; i < 8; i++ {
 		busy.Add(1)
@@ -655,15 +655,15 @@ func TestSavesAmidCalls(t *testing.T) {
 			for i := 0; i < 300; i++ {
 				answers(t, seat, "fork 1", "getpid 1", "nspid 1 1")
 			}
-		}(seatOf(t, shared))
+		}(seatOf(t, table))
 	}
 	for i := 0; i < 2; i++ {
 		busy.Add(1)
 		go func() {
 			defer busy.Done()
 			for i := 0; i < 50; i++ {
-				save(t, shared, file, saved)
-				again, loaded, err := LoadShared(bytes.NewReader(bytesOf(t, shared)), 0)
+				save(t, table, file, saved)
+				again, loaded, err := Load(bytes.NewReader(bytesOf(t, table)), withHistory(1))
 				if err != nil || loaded.LeftOut() != 0 {
 					t.Error(err)
 					return
@@ -673,11 +673,11 @@ func TestSavesAmidCalls(t *testing.T) {
 		}()
 	}
 	busy.Wait()
-	save(t, shared, file, saved)
-	want(t, "bytes", of(file.Bytes(), nil), bytesOf(t, shared), nil)
+	save(t, table, file, saved)
+	want(t, "bytes", of(file.Bytes(), nil), bytesOf(t, table), nil)
 	again, loaded := load(t, file.Bytes())
 	wantSaved(t, loaded, 7200, file.Len(), 0)
-	wantSame(t, again, shared)
+	wantSame(t, again, table)
 }
 
 // said is what a program writes where it is given the bytes.
@@ -718,12 +718,12 @@ const python = `
 import sys, pidtab
 path, wanted = sys.argv[1], sys.stdin.buffer.read()
 open(path, "wb").write(wanted)
-with pidtab.Shared.load(path) as loaded, pidtab.Shared(2) as shared:
-    seats = [shared.seat(), shared.seat()]
+with pidtab.Table.load(path) as loaded, pidtab.Table(keep=pidtab.ALL, workers=2) as table:
+    seats = [table.seat(), table.seat()]
     for it in loaded.entries():
         seats[it.worker].answers([it.line])
-    assert list(shared.entries()) == list(loaded.entries())
-    shared.save(path + " again")
+    assert list(table.entries()) == list(loaded.entries())
+    table.save(path + " again")
 sys.stdout.buffer.write(open(path + " again", "rb").read())
 `
 

@@ -7,52 +7,9 @@ import (
 	"context"
 	"io"
 	"sync"
-	"sync/atomic"
 )
 
-// A turnLock is a lock for readers and writers of which whoever calls Lock is before those that call LockForCall: each of these has it once more at
-// most. A sync.RWMutex alone is for the writer who comes first when it is free, which is a goroutine that has just given it back; only after a
-// millisecond it is for one that waits. It lets no reader pass a writer that waits, and has those that wait in before the next writer.
-type turnLock struct {
-	lock      sync.RWMutex
-	gate      sync.Mutex
-	isAwaited atomic.Bool // somebody at the gate waits for the lock
-}
-
-// Lock locks before the calls.
-func (it *turnLock) Lock() {
-	it.gate.Lock()
-	it.isAwaited.Store(true)
-	it.lock.Lock()
-	it.isAwaited.Store(false)
-	it.gate.Unlock()
-}
-
-// LockForCall locks for a call.
-func (it *turnLock) LockForCall() {
-	if it.isAwaited.Load() {
-		it.gate.Lock()
-		it.gate.Unlock()
-	}
-	it.lock.Lock()
-}
-
-// Unlock unlocks.
-func (it *turnLock) Unlock() {
-	it.lock.Unlock()
-}
-
-// RLock locks for a query, beside others.
-func (it *turnLock) RLock() {
-	it.lock.RLock()
-}
-
-// RUnlock unlocks after a query.
-func (it *turnLock) RUnlock() {
-	it.lock.RUnlock()
-}
-
-// A saving is how far the saver of a table is, as it has told. The lock of the record guards it.
+// A saving is how far the saver of a table is, as it has told.
 type saving struct {
 	told, recorded sync.Cond // the saver has told; a call was recorded while somebody slept
 	saved, most    uint64    // so many calls are saved; as many may be recorded and not saved, or 0 for any number
@@ -68,22 +25,25 @@ type saving struct {
 //
 // The errors are those of Save, and that of sync in a SavedError. WaitSaved answers them too. Serve may be called again; but after a Sync of a file
 // that failed, nobody knows what the disk has: load it.
-func (shared *Shared) Serve(to io.Writer, saved *Saved, keep uint64, sync func() error) error {
-	return shared.ServeContext(context.Background(), to, saved, keep, sync)
+func (table *Table) Serve(to io.Writer, saved *Saved, keep uint64, sync func() error) error {
+	return table.ServeContext(context.Background(), to, saved, keep, sync)
 }
 
 // ServeContext is Serve until the context is done too. Then it saves what was recorded, and answers the context's Err in a SavedError, as WaitSaved does
 // until a turn does better. A write or a sync that does not return is not ended.
-func (shared *Shared) ServeContext(ctx context.Context, to io.Writer, saved *Saved, keep uint64, sync func() error) error {
+func (table *Table) ServeContext(ctx context.Context, to io.Writer, saved *Saved, keep uint64, sync func() error) error {
 	if ctx == nil || to == nil || saved == nil {
 		return SavedError{Err: ErrNil}
 	}
-	held := shared.held()
+	held := table.held()
+	if err := held.forThreads(); err != nil {
+		return SavedError{Err: err}
+	}
 	defer held.watch(ctx)()
 	// One turn more after the end, for what was recorded before it.
 	for isLast, hasEnded := false, false; !isLast; {
 		isLast = hasEnded
-		err := shared.serveOnce(to, saved, keep, sync)
+		err := table.serveOnce(to, saved, keep, sync)
 		if err == nil {
 			hasEnded, err = held.sleepUntilCall(ctx, saved)
 		}
@@ -95,7 +55,7 @@ func (shared *Shared) ServeContext(ctx context.Context, to io.Writer, saved *Sav
 }
 
 // leave ends a saver: what waits is told of a context that is done, but not after EndSaving.
-func (held *heldRecord) leave(ctx context.Context, saved *Saved) error {
+func (held *heldTable) leave(ctx context.Context, saved *Saved) error {
 	saved.lock.Lock()
 	defer saved.lock.Unlock()
 	if held.isEnded() {
@@ -105,9 +65,9 @@ func (held *heldRecord) leave(ctx context.Context, saved *Saved) error {
 }
 
 // isEnded is whether EndSaving was called.
-func (held *heldRecord) isEnded() bool {
-	held.lock.RLock()
-	defer held.lock.RUnlock()
+func (held *heldTable) isEnded() bool {
+	held.RLock()
+	defer held.RUnlock()
 	return held.saving.hasEnded
 }
 
@@ -116,18 +76,24 @@ func (held *heldRecord) isEnded() bool {
 //
 // An error is that of the saver's last turn, at once until a turn does better: whether the call is saved is not known. ErrEnded after EndSaving, and
 // ErrClosed after Close. Before the first turn it waits.
-func (shared *Shared) WaitSaved(ordinal uint64) error {
-	return shared.WaitSavedContext(context.Background(), ordinal)
+func (table *Table) WaitSaved(ordinal uint64) error {
+	return table.WaitSavedContext(context.Background(), ordinal)
 }
 
 // WaitSavedContext is WaitSaved, and a context that is done ends the wait for a call that is not saved, with its Err. ErrNil.
-func (shared *Shared) WaitSavedContext(ctx context.Context, ordinal uint64) error {
+func (table *Table) WaitSavedContext(ctx context.Context, ordinal uint64) error {
 	if ctx == nil {
 		return ErrNil
 	}
-	held := shared.held()
-	held.lock.Lock()
-	defer held.lock.Unlock()
+	held := table.held()
+	if err := held.forThreads(); err != nil {
+		return err
+	}
+	held.Lock()
+	defer held.Unlock()
+	if _, err := held.counts(); err != nil {
+		return err
+	}
 	err := held.waitTold(ctx, func() (bool, error) { return !bool(held.raw.is_open) || held.saving.saved > ordinal, held.saving.fault })
 	if err == nil && !held.raw.is_open {
 		return ErrClosed
@@ -135,8 +101,8 @@ func (shared *Shared) WaitSavedContext(ctx context.Context, ordinal uint64) erro
 	return err
 }
 
-// waitTold waits for the saver until something is so, or there is a fault, or the context is done. The lock is held, but not meanwhile.
-func (held *heldRecord) waitTold(ctx context.Context, look func() (bool, error)) error {
+// waitTold waits for the saver until something is so, or there is a fault, or the context is done. The table is taken, but not meanwhile.
+func (held *heldTable) waitTold(ctx context.Context, look func() (bool, error)) error {
 	is, err := look()
 	if is {
 		return nil
@@ -156,7 +122,7 @@ func (held *heldRecord) waitTold(ctx context.Context, look func() (bool, error))
 }
 
 // watch has all that wait, and the saver, look again once the context is done. What it answers ends that.
-func (held *heldRecord) watch(ctx context.Context) func() {
+func (held *heldTable) watch(ctx context.Context) func() {
 	done, over := ctx.Done(), make(chan struct{})
 	if done == nil {
 		return func() {}
@@ -171,37 +137,46 @@ func (held *heldRecord) watch(ctx context.Context) func() {
 	return func() { close(over) }
 }
 
-// BoundUnsaved has at most so many calls be recorded and not saved from now on; 0, as at first, is any number. A call of a seat that would be one
+// BoundUnsaved has at most so many calls be recorded and not saved from now on; 0, as at first, is any number. A call that would be one
 // more waits for the saver, as WaitSaved does. Where the saver's last turn failed, or it has ended, it is not made, and answers ErrUnsaved. The
 // goroutine that saves makes no call then.
-func (shared *Shared) BoundUnsaved(most uint64) {
-	shared.held().change(func(saving *saving) { saving.most = most })
+func (table *Table) BoundUnsaved(most uint64) error {
+	return table.held().tellSaver(func(saving *saving) { saving.most = most })
 }
 
 // EndSaving ends the saver, for good: Serve saves what was recorded, and returns. What waits, or comes to wait, for a call that is not saved is
 // ErrEnded. So it is called when nobody waits any more.
-func (shared *Shared) EndSaving() {
-	shared.held().change(func(saving *saving) { saving.hasEnded, saving.fault = true, ErrEnded })
+func (table *Table) EndSaving() error {
+	return table.held().tellSaver(func(saving *saving) { saving.hasEnded, saving.fault = true, ErrEnded })
+}
+
+// tellSaver changes what the saver, and all that wait for it, look at, if the table has any.
+func (held *heldTable) tellSaver(do func(*saving)) error {
+	err := held.forThreads()
+	if err == nil {
+		held.change(do)
+	}
+	return err
 }
 
 // serveOnce is one turn of the saver.
-func (shared *Shared) serveOnce(to io.Writer, saved *Saved, keep uint64, sync func() error) error {
+func (table *Table) serveOnce(to io.Writer, saved *Saved, keep uint64, sync func() error) error {
 	saved.lock.Lock()
 	defer saved.lock.Unlock()
-	err := shared.save(to, saved)
+	err := table.save(to, saved)
 	if err == nil {
-		err = shared.held().cutSaved(to, saved, keep)
+		err = table.held().cutSaved(to, saved, keep)
 	}
 	if err == nil && sync != nil {
 		err = sync()
 	}
-	return shared.held().tell(saved, err)
+	return table.held().tell(saved, err)
 }
 
 // cutSaved cuts the history where it is long enough, after its last entries. Where there is no memory for that, it grows on.
-func (held *heldRecord) cutSaved(to io.Writer, saved *Saved, keep uint64) error {
-	held.lock.Lock()
-	defer held.lock.Unlock()
+func (held *heldTable) cutSaved(to io.Writer, saved *Saved, keep uint64) error {
+	held.Lock()
+	defer held.Unlock()
 	counts, err := held.counts()
 	if err != nil || keep == 0 || counts.Recorded-counts.FirstKept < keep {
 		return err
@@ -209,12 +184,12 @@ func (held *heldRecord) cutSaved(to io.Writer, saved *Saved, keep uint64) error 
 	if err := saved.writeUpTo(counts.Recorded, to, held.read); err != nil {
 		return err
 	}
-	C.pidtab_record_checkpoint(held.raw)
+	C.pidtab_checkpoint(&held.raw)
 	return nil
 }
 
 // tell tells all that wait how far the saver is, and answers its fault. What ended is not taken back.
-func (held *heldRecord) tell(saved *Saved, err error) error {
+func (held *heldTable) tell(saved *Saved, err error) error {
 	fault := saved.at(err)
 	held.change(func(saving *saving) {
 		if fault == nil {
@@ -227,20 +202,22 @@ func (held *heldRecord) tell(saved *Saved, err error) error {
 	return fault
 }
 
-// change changes what all that wait, and the saver, look at again then.
-func (held *heldRecord) change(do func(*saving)) {
-	held.lock.Lock()
-	defer held.lock.Unlock()
+// change changes what all that wait, and the saver, look at again then. At a busy table without Threads nobody waits.
+func (held *heldTable) change(do func(*saving)) {
+	if !held.enter() {
+		return
+	}
+	defer held.Unlock()
 	do(&held.saving)
 	held.saving.told.Broadcast()
 	held.saving.recorded.Broadcast()
 }
 
 // sleepUntilCall sleeps until a call is recorded that is not saved. Whether the saver has ended, or its context is done.
-func (held *heldRecord) sleepUntilCall(ctx context.Context, saved *Saved) (bool, error) {
+func (held *heldTable) sleepUntilCall(ctx context.Context, saved *Saved) (bool, error) {
 	calls, bytes := saved.Calls(), saved.Bytes()
-	held.lock.Lock()
-	defer held.lock.Unlock()
+	held.Lock()
+	defer held.Unlock()
 	for !held.saving.hasEnded && ctx.Err() == nil {
 		counts, err := held.counts()
 		if err != nil {
@@ -254,14 +231,14 @@ func (held *heldRecord) sleepUntilCall(ctx context.Context, saved *Saved) (bool,
 	return true, nil
 }
 
-// sleep sleeps until calls may have been recorded. The lock is held, but not meanwhile.
-func (held *heldRecord) sleep() {
+// sleep sleeps until calls may have been recorded. The table is taken, but not meanwhile.
+func (held *heldTable) sleep() {
 	held.saving.sleeps = true
 	held.saving.recorded.Wait()
 }
 
-// wakeSleepers has all that sleep look at what was recorded. The lock is held.
-func (held *heldRecord) wakeSleepers() {
+// wakeSleepers has all that sleep look at what was recorded. The table is taken.
+func (held *heldTable) wakeSleepers() {
 	if held.saving.sleeps {
 		held.saving.sleeps = false
 		held.saving.recorded.Broadcast()
@@ -269,12 +246,12 @@ func (held *heldRecord) wakeSleepers() {
 }
 
 // waitForSaver waits until the saver is near enough for so many calls, where there is a bound; for more than the bound, until all are saved. It
-// answers why calls are not to be made: ErrUnsaved, or the Err of the context. The lock is held.
-func (held *heldRecord) waitForSaver(ctx context.Context, calls int) error {
+// answers why calls are not to be made: ErrUnsaved, or the Err of the context. The table is taken.
+func (held *heldTable) waitForSaver(ctx context.Context, calls int) error {
 	if ctx == nil && bool(held.raw.is_open) {
 		return ErrNil
 	}
-	if held.isNear(calls) {
+	if !held.waits || held.isNear(calls) {
 		return nil
 	}
 	return held.waitTold(ctx, func() (bool, error) {
@@ -285,8 +262,8 @@ func (held *heldRecord) waitForSaver(ctx context.Context, calls int) error {
 	})
 }
 
-// isNear is whether so many calls may be made, as the bound has it. The lock is held.
-func (held *heldRecord) isNear(calls int) bool {
+// isNear is whether so many calls may be made, as the bound has it. The table is taken.
+func (held *heldTable) isNear(calls int) bool {
 	if held.saving.most == 0 {
 		return true
 	}

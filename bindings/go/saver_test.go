@@ -52,12 +52,12 @@ func ask(t *testing.T, seat *Seat) uint64 {
 }
 
 // besideTheSaver has goroutines do it at once, and the saver end after them: how many calls are saved.
-func besideTheSaver(t *testing.T, shared *Shared, to *disk, keep uint64, does func(*Seat)) uint64 {
+func besideTheSaver(t *testing.T, table *Table, to *disk, keep uint64, does func(*Seat)) uint64 {
 	t.Helper()
 	saved, ended, busy := new(Saved), make(chan error, 1), new(sync.WaitGroup)
-	go func() { ended <- shared.Serve(to, saved, keep, to.sync) }()
+	go func() { ended <- table.Serve(to, saved, keep, to.sync) }()
 	for i := 0; i < savers; i++ {
-		seat := seatOf(t, shared)
+		seat := seatOf(t, table)
 		busy.Add(1)
 		go func() {
 			defer busy.Done()
@@ -67,7 +67,7 @@ func besideTheSaver(t *testing.T, shared *Shared, to *disk, keep uint64, does fu
 		}()
 	}
 	busy.Wait()
-	shared.EndSaving()
+	table.EndSaving()
 	want(t, "the saver", only(<-ended), nil, nil)
 	return saved.Calls()
 }
@@ -75,14 +75,14 @@ func besideTheSaver(t *testing.T, shared *Shared, to *disk, keep uint64, does fu
 // Each call is after a sync when it is answered. No goroutine has more than one that is not, so a cut leaves as many as there are goroutines.
 func TestEachAnswerIsOnTheDisk(t *testing.T) {
 	const keep = 256
-	shared, to := openShared(t, Settings{PidMax: 32768, Workers: savers}), new(disk)
-	calls := besideTheSaver(t, shared, to, keep, func(seat *Seat) {
+	table, to := open(t, withHistory(savers)), new(disk)
+	calls := besideTheSaver(t, table, to, keep, func(seat *Seat) {
 		ordinal := ask(t, seat)
-		if err := shared.WaitSaved(ordinal); err != nil || to.calls() <= ordinal {
+		if err := table.WaitSaved(ordinal); err != nil || to.calls() <= ordinal {
 			t.Error(ordinal, to.calls(), err)
 		}
 	})
-	counts, _ := shared.Counts()
+	counts, _ := table.Counts()
 	if calls != savers*savedEach || counts.Recorded != calls || counts.Recorded-counts.FirstKept >= keep+savers {
 		t.Error(calls, counts)
 	}
@@ -91,9 +91,9 @@ func TestEachAnswerIsOnTheDisk(t *testing.T) {
 // A call was made when at most so many were not saved; by now more may be.
 func TestNeverTooFar(t *testing.T) {
 	const bound = 16
-	shared, to := openShared(t, Settings{PidMax: 32768, Workers: savers}), new(disk)
-	shared.BoundUnsaved(bound)
-	calls := besideTheSaver(t, shared, to, 0, func(seat *Seat) {
+	table, to := open(t, withHistory(savers)), new(disk)
+	table.BoundUnsaved(bound)
+	calls := besideTheSaver(t, table, to, 0, func(seat *Seat) {
 		if ordinal := ask(t, seat); ordinal >= to.calls()+bound {
 			t.Error(ordinal, to.calls())
 		}
@@ -106,10 +106,10 @@ func TestNeverTooFar(t *testing.T) {
 // The same by turns. One that is longer than the bound is made where all is saved.
 func TestNoTurnTooFar(t *testing.T) {
 	const bound = 16
-	shared, to := openShared(t, Settings{PidMax: 32768, Workers: savers}), new(disk)
-	shared.BoundUnsaved(bound)
+	table, to := open(t, withHistory(savers)), new(disk)
+	table.BoundUnsaved(bound)
 	var turns atomic.Uint64
-	calls := besideTheSaver(t, shared, to, 0, func(seat *Seat) {
+	calls := besideTheSaver(t, table, to, 0, func(seat *Seat) {
 		count := 1 + turns.Add(1)%3*bound
 		calls := make([]Call, count)
 		for i := range calls {
@@ -124,7 +124,7 @@ func TestNoTurnTooFar(t *testing.T) {
 			t.Error(ordinal, to.calls(), err)
 		}
 	})
-	counts, err := shared.Counts()
+	counts, err := table.Counts()
 	if calls != counts.Recorded || calls < savers*savedEach || err != nil {
 		t.Error(calls, counts, err)
 	}
@@ -138,12 +138,12 @@ func TestWhatWasLoadedIsSaved(t *testing.T) {
 
 // Who waits has the fault of the saver, at once, until a save does better; and what is too far is not made.
 func TestASaverThatFails(t *testing.T) {
-	shared, saved, to := openShared(t, Settings{PidMax: 32768, Workers: 1}), new(Saved), new(disk)
-	seat, waiter := seatOf(t, shared), make(chan error, 1)
-	shared.BoundUnsaved(1)
+	table, saved, to := open(t, withHistory(1)), new(Saved), new(disk)
+	seat, waiter := seatOf(t, table), make(chan error, 1)
+	table.BoundUnsaved(1)
 	ask(t, seat)
-	go func() { waiter <- shared.WaitSaved(0) }()
-	for _, err := range []error{shared.Serve(brokenDisk{}, saved, 0, nil), <-waiter, shared.WaitSaved(0)} {
+	go func() { waiter <- table.WaitSaved(0) }()
+	for _, err := range []error{table.Serve(brokenDisk{}, saved, 0, nil), <-waiter, table.WaitSaved(0)} {
 		if fault := new(SavedError); !errors.Is(err, syscall.ENOSPC) || !errors.As(err, fault) {
 			t.Error(err)
 		}
@@ -151,52 +151,52 @@ func TestASaverThatFails(t *testing.T) {
 	want(t, "too far", of(seat.Getpid(1)), uint32(0), ErrUnsaved)
 	want(t, "too far", of(seat.Line("getpid 1")), "", ErrUnsaved)
 	isNotMade(t, seat, exitOf(2, 0), ErrUnsaved)
-	want(t, "counts", of(shared.Counts()), Counts{0, 1}, nil)
+	want(t, "counts", of(table.Counts()), Counts{0, 1}, nil)
 	// A sync that fails: the call is given to the disk, and counts as not saved.
-	err := shared.Serve(to, saved, 0, func() error { return syscall.EIO })
-	if !errors.Is(err, syscall.EIO) || saved.Calls() != 1 || !errors.Is(shared.WaitSaved(0), syscall.EIO) {
+	err := table.Serve(to, saved, 0, func() error { return syscall.EIO })
+	if !errors.Is(err, syscall.EIO) || saved.Calls() != 1 || !errors.Is(table.WaitSaved(0), syscall.EIO) {
 		t.Error(err, saved.Calls())
 	}
-	save(t, shared, to, saved)
-	want(t, "saved", only(shared.WaitSaved(0)), nil, nil)
+	save(t, table, to, saved)
+	want(t, "saved", only(table.WaitSaved(0)), nil, nil)
 	want(t, "the next", of(ask(t, seat), nil), uint64(1), nil)
 }
 
 // A saver that has ended has a turn yet, and then nobody waits for it.
 func TestASaverThatHasEnded(t *testing.T) {
-	shared, saved, file := openShared(t, Settings{PidMax: 32768, Workers: 1}), new(Saved), new(bytes.Buffer)
-	seat, waiter := seatOf(t, shared), make(chan error, 1)
-	shared.BoundUnsaved(1)
+	table, saved, file := open(t, withHistory(1)), new(Saved), new(bytes.Buffer)
+	seat, waiter := seatOf(t, table), make(chan error, 1)
+	table.BoundUnsaved(1)
 	ask(t, seat)
-	go func() { waiter <- shared.WaitSaved(0) }()
-	shared.EndSaving()
+	go func() { waiter <- table.WaitSaved(0) }()
+	table.EndSaving()
 	want(t, "the waiter", only(<-waiter), nil, ErrEnded)
 	want(t, "too far", of(seat.Getpid(1)), uint32(0), ErrUnsaved)
-	want(t, "a turn", only(shared.Serve(file, saved, 0, nil)), nil, nil)
+	want(t, "a turn", only(table.Serve(file, saved, 0, nil)), nil, nil)
 	if saved.Calls() != 1 || file.Len() != 2*blockSize {
 		t.Error(saved.Calls(), file.Len())
 	}
-	want(t, "saved", only(shared.WaitSaved(0)), nil, nil)
-	want(t, "the next", only(shared.WaitSaved(1)), nil, ErrEnded)
+	want(t, "saved", only(table.WaitSaved(0)), nil, nil)
+	want(t, "the next", only(table.WaitSaved(1)), nil, ErrEnded)
 }
 
 // A table that is closed lets nobody wait.
 func TestASaverOfAClosedTable(t *testing.T) {
-	shared, ended, waiter := openShared(t, Settings{PidMax: 32768, Workers: 1}), make(chan error, 1), make(chan error, 1)
-	go func() { ended <- shared.Serve(new(disk), new(Saved), 0, nil) }()
-	go func() { waiter <- shared.WaitSaved(0) }()
-	shared.Close()
+	table, ended, waiter := open(t, withHistory(1)), make(chan error, 1), make(chan error, 1)
+	go func() { ended <- table.Serve(new(disk), new(Saved), 0, nil) }()
+	go func() { waiter <- table.WaitSaved(0) }()
+	table.Close()
 	if err := <-ended; !errors.Is(err, ErrClosed) {
 		t.Error(err)
 	}
 	want(t, "the waiter", only(<-waiter), nil, ErrClosed)
-	want(t, "none", only(new(Shared).WaitSaved(0)), nil, ErrClosed)
-	want(t, "nil", only(shared.Serve(nil, nil, 0, nil)), nil, SavedError{Err: ErrNil})
+	want(t, "none", only(new(Table).WaitSaved(0)), nil, ErrClosed)
+	want(t, "nil", only(table.Serve(nil, nil, 0, nil)), nil, SavedError{Err: ErrNil})
 }
 
 // Each of the busy goroutines has the lock once more at most, and then waits until the other has had it.
 func TestBusyGoroutinesGiveWay(t *testing.T) {
-	var lock turnLock
+	var lock fairLock
 	var count int
 	var isOver atomic.Bool
 	var busy sync.WaitGroup

@@ -18,13 +18,17 @@ type SpaceStat struct {
 	Fallen bool    // its init has ended: it takes no task any more, and is gone with the last number in it
 }
 
-// idsOf are all ids of a function of the library that writes as many as there is room for, and counts all; or the error for an id that nothing has.
-// Nothing changes between two tries, as the lock is held.
-func idsOf(absent error, page func(ids *C.uint64_t, room C.size_t, count *C.uint64_t) C.uint32_t) ([]uint64, error) {
-	count := new(C.uint64_t)
+// ids are all ids of a function of the library that writes as many as there is room for, and counts all; or the error for an id that nothing has.
+// Nothing changes between two tries.
+func (table *Table) ids(absent error, page func(held *heldTable, ids *C.uint64_t, room C.size_t, count *C.uint64_t) C.uint32_t) ([]uint64, error) {
+	held, count := table.held(), new(C.uint64_t)
+	if !held.share() {
+		return nil, ErrBusy
+	}
+	defer held.RUnlock()
 	for there := shortPage; ; {
 		ids := make([]uint64, there)
-		status := page((*C.uint64_t)(unsafe.Pointer(&ids[0])), C.size_t(there), count)
+		status := page(held, (*C.uint64_t)(unsafe.Pointer(&ids[0])), C.size_t(there), count)
 		if status == C.PIDTAB_OUT_OF_RANGE {
 			return nil, absent
 		}

@@ -6,7 +6,7 @@ import (
 	"testing"
 )
 
-// spaceReader is what a Table and a Shared read namespaces by.
+// spaceReader is what a Table reads namespaces by.
 type spaceReader interface {
 	Space(id uint64) (SpaceStat, error)
 }
@@ -34,14 +34,14 @@ func isNoSpace(t *testing.T, it spaceReader, id uint64, wanted string) {
 	}
 }
 
-// openSpaces has a table and a shared one. The ids are the numbers of calls: 2 is the init of 1, and 3 that of 2 within it. 4 is that of 3, in which is 5, a
+// openSpaces has a table and a kept one. The ids are the numbers of calls: 2 is the init of 1, and 3 that of 2 within it. 4 is that of 3, in which is 5, a
 // child of the root init.
-func openSpaces(t *testing.T) (*Table, *Shared, *Seat) {
+func openSpaces(t *testing.T) (*Table, *Table, *Seat) {
 	t.Helper()
-	table, shared := open(t, 32768), openShared(t, Settings{PidMax: 32768, Workers: 1})
-	seat := seatOf(t, shared)
+	table, kept := open(t, Settings{}), open(t, withHistory(1))
+	seat := seatOf(t, kept)
 	makeBoth(t, table, seat, "fork 1 new", "fork 2 new", "fork 1 new", "join 1 4", "fork 1")
-	return table, shared, seat
+	return table, kept, seat
 }
 
 // makeBoth makes calls at both.
@@ -51,16 +51,16 @@ func makeBoth(t *testing.T, table *Table, seat *Seat, lines ...string) {
 	play(t, seat, lines...)
 }
 
-// nest is what a Table and a Shared answer what is directly inside by.
+// nest is what a Table answers what is directly inside by.
 type nest interface {
 	SpacesInside(id, from uint64) ([]uint64, error)
 	ControlsInside(id, from uint64) ([]uint64, error)
 }
 
 func TestWhatIsDirectlyInside(t *testing.T) {
-	table, shared, seat := openSpaces(t)
+	table, kept, seat := openSpaces(t)
 	makeBoth(t, table, seat, "mk 0", "mk 6", "mk 6")
-	for _, it := range []nest{table, shared} {
+	for _, it := range []nest{table, kept} {
 		for _, row := range []struct {
 			ask      func(id, from uint64) ([]uint64, error)
 			id, from uint64
@@ -81,12 +81,12 @@ func TestWhatIsDirectlyInside(t *testing.T) {
 			t.Error(found, err)
 		}
 	}
-	if counts, err := shared.Counts(); err != nil || counts.Recorded != 8 {
+	if counts, err := kept.Counts(); err != nil || counts.Recorded != 8 {
 		t.Error(counts, err)
 	}
 	table.Close()
-	shared.Close()
-	for _, it := range []nest{table, shared} {
+	kept.Close()
+	for _, it := range []nest{table, kept} {
 		if _, err := it.SpacesInside(0, 0); !errors.Is(err, ErrClosed) {
 			t.Error(err)
 		}
@@ -94,7 +94,7 @@ func TestWhatIsDirectlyInside(t *testing.T) {
 }
 
 func TestMoreInsideThanThereIsRoomForAtFirst(t *testing.T) {
-	table, wanted := open(t, 32768), []uint64{}
+	table, wanted := open(t, Settings{}), []uint64{}
 	for id := uint64(1); id < 3*shortPage; id++ {
 		play(t, table, "mk 0")
 		wanted = append(wanted, id)
@@ -105,8 +105,8 @@ func TestMoreInsideThanThereIsRoomForAtFirst(t *testing.T) {
 }
 
 func TestNamespaces(t *testing.T) {
-	table, shared, seat := openSpaces(t)
-	both := []spaceReader{table, shared}
+	table, kept, seat := openSpaces(t)
+	both := []spaceReader{table, kept}
 	for _, it := range both {
 		isSpace(t, it, SpaceStat{ID: 0, Level: 0, Init: 1})
 		isSpace(t, it, inSpace(0, SpaceStat{ID: 1, Level: 1, Init: 2}))
@@ -132,7 +132,7 @@ func TestNamespaces(t *testing.T) {
 		isSpace(t, it, inSpace(0, SpaceStat{ID: 1, Level: 1, Init: 2, Fallen: true}))
 		isNoSpace(t, it, 2, "pidtab: no namespace has the id 2: it is gone, or there was none")
 	}
-	if counts, err := shared.Counts(); err != nil || counts.Recorded != 9 {
+	if counts, err := kept.Counts(); err != nil || counts.Recorded != 9 {
 		t.Error(counts, err)
 	}
 	if id, err := table.Mk(0); err != nil || id != 10 {
@@ -141,10 +141,10 @@ func TestNamespaces(t *testing.T) {
 }
 
 func TestNamespacesOfWhatIsClosed(t *testing.T) {
-	table, shared, _ := openSpaces(t)
+	table, kept, _ := openSpaces(t)
 	table.Close()
-	shared.Close()
-	for _, it := range []spaceReader{table, shared} {
+	kept.Close()
+	for _, it := range []spaceReader{table, kept} {
 		if _, err := it.Space(0); !errors.Is(err, ErrClosed) {
 			t.Error(err)
 		}
@@ -152,7 +152,7 @@ func TestNamespacesOfWhatIsClosed(t *testing.T) {
 }
 
 func TestNamespacesAsJSON(t *testing.T) {
-	table := open(t, 32768)
+	table := open(t, Settings{})
 	play(t, table, "fork 1 new", "join 1 2", "fork 1", "exit 2 7")
 	root, _ := table.Space(0)
 	space, _ := table.Space(1)
@@ -166,9 +166,9 @@ func TestNamespacesAsJSON(t *testing.T) {
 }
 
 func TestNamespacesBesideAWriter(t *testing.T) {
-	besideAWriter(t, NewNamespace, func(shared *Shared, before int) (int, error) {
+	besideAWriter(t, NewNamespace, func(table *Table, before int) (int, error) {
 		id := uint64(before) + 1
-		found, err := shared.Space(id)
+		found, err := table.Space(id)
 		if errors.Is(err, ErrOutOfRange) {
 			return before, nil
 		}
@@ -180,8 +180,8 @@ func TestNamespacesBesideAWriter(t *testing.T) {
 }
 
 func TestWhatIsInsideBesideAWriter(t *testing.T) {
-	besideAWriter(t, NewNamespace, func(shared *Shared, before int) (int, error) {
-		found, err := shared.SpacesInside(0, 0)
+	besideAWriter(t, NewNamespace, func(table *Table, before int) (int, error) {
+		found, err := table.SpacesInside(0, 0)
 		return inOrder(found, err, 1)
 	})
 }

@@ -13,7 +13,7 @@ var made = []string{
 
 // What was read is the caller's own.
 func TestReadsShareNothing(t *testing.T) {
-	table := open(t, 32768)
+	table := open(t, Settings{})
 	first, _ := table.Stat(1, 0)
 	first.Numbers[0] = 7
 	if second, err := table.Stat(1, 0); err != nil || !reflect.DeepEqual(second.Numbers, []uint32{1}) {
@@ -22,7 +22,7 @@ func TestReadsShareNothing(t *testing.T) {
 }
 
 func TestTasksAsJSON(t *testing.T) {
-	table := open(t, 32768)
+	table := open(t, Settings{})
 	play(t, table, made...)
 	for pid, wanted := range map[uint32]string{
 		4: `{"numbers":[4,3,1],"root":4,"parent":3,"group":4,"session":1,"space":4,"control":0,"state":"live","status":null,"executed":false,"subreaper":true}`,

@@ -12,9 +12,9 @@ import (
 	"testing"
 )
 
-func open(t *testing.T, pidMax uint32) *Table {
+func open(t *testing.T, settings Settings) *Table {
 	t.Helper()
-	table, err := Open(pidMax)
+	table, err := Open(settings)
 	if err != nil {
 		t.Fatal(err)
 	}
@@ -59,7 +59,7 @@ func refused(errno syscall.Errno, why string) Refusal {
 
 // The constants are those of docs/SCRIPT.md, and tell a refusal from another.
 func TestWords(t *testing.T) {
-	table := open(t, 32768)
+	table := open(t, Settings{})
 	play(t, table, "mk 0", "limit 1 1", "move 1 1")
 	_, err := table.Fork(1, NoNewNamespace)
 	var refusal Refusal
@@ -72,7 +72,7 @@ func TestWords(t *testing.T) {
 }
 
 func TestWhatErrorsSay(t *testing.T) {
-	table := open(t, 32768)
+	table := open(t, Settings{})
 	_, err := table.Getpid(9)
 	if err == nil || err.Error() != "pidtab: getpid 9: no such process: no-caller" {
 		t.Error(err)
@@ -93,7 +93,7 @@ func TestStatuses(t *testing.T) {
 }
 
 func TestWhatIsNoCall(t *testing.T) {
-	table := open(t, 32768)
+	table := open(t, Settings{})
 	want(t, "two lines", of(table.Line("fork 1\n")), "", ErrBadLine)
 	want(t, "no kind", of(table.Next(1, Kind(3), 0)), uint32(0), RangeError{"Call.Choice (kind)", "3", "0 to 2"})
 	want(t, "no operation", of(table.Call(Call{Operation: 99})), Reply{}, RangeError{"Call.Operation", "99", "0 to 18"})
@@ -101,7 +101,7 @@ func TestWhatIsNoCall(t *testing.T) {
 }
 
 func TestAClosedTable(t *testing.T) {
-	table := open(t, 32768)
+	table := open(t, Settings{})
 	table.Close()
 	table.Close()
 	for operation := OpFork; operation <= OpSubreaper; operation++ {
@@ -119,13 +119,13 @@ func TestAClosedTable(t *testing.T) {
 
 // As in a forked child, where the thread whose call was under way is not.
 func TestACallThatDoesNotEnd(t *testing.T) {
-	table := open(t, 32768)
-	table.own.raw.in_use = 255
+	table := open(t, Settings{})
+	table.held().raw.in_use = 255
 	want(t, "getpid", of(table.Getpid(1)), uint32(0), ErrBusy)
 	want(t, "line", of(table.Line("getpid 1")), "", ErrBusy)
 	want(t, "list", of(table.List()), "", ErrBusy)
 	want(t, "stat", of(table.Stat(1, 0)), Stat{}, ErrBusy)
-	table.own.raw.in_use = 0
+	table.held().raw.in_use = 0
 	want(t, "getpid", of(table.Getpid(1)), uint32(1), nil)
 }
 
@@ -140,9 +140,9 @@ func forks(t *testing.T, table *Table, roots []int) {
 	}
 }
 
-func TestEightGoroutinesShareATable(t *testing.T) {
+func TestEightGoroutinesUseATable(t *testing.T) {
 	const each = 2000
-	table := open(t, 32768)
+	table := open(t, Settings{Threads: true})
 	roots := make([]int, 8*each)
 	var workers sync.WaitGroup
 	for i := 0; i < 8; i++ {

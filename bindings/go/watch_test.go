@@ -18,9 +18,9 @@ const (
 )
 
 // waiting begins a wait in a goroutine, whose answer it tells.
-func waiting(ctx context.Context, shared *Shared, ordinal uint64) <-chan told {
+func waiting(ctx context.Context, table *Table, ordinal uint64) <-chan told {
 	answer := make(chan told, 1)
-	go func() { answer <- of(shared.WaitChanged(ctx, ordinal)) }()
+	go func() { answer <- of(table.WaitChanged(ctx, ordinal)) }()
 	return answer
 }
 
@@ -30,32 +30,32 @@ func isOver(answer <-chan told) bool {
 }
 
 func TestWhatIsRecordedIsNotWaitedFor(t *testing.T) {
-	shared := openShared(t, Settings{PidMax: 32768, Workers: 1})
-	forked(t, seatOf(t, shared), 2)
+	table := open(t, withHistory(1))
+	forked(t, seatOf(t, table), 2)
 	done, cancel := context.WithCancel(context.Background())
 	cancel()
 	for _, ctx := range []context.Context{context.Background(), done} {
-		want(t, "the first", of(shared.WaitChanged(ctx, 0)), uint64(2), nil)
-		want(t, "the second", of(shared.WaitChanged(ctx, 1)), uint64(2), nil)
+		want(t, "the first", of(table.WaitChanged(ctx, 0)), uint64(2), nil)
+		want(t, "the second", of(table.WaitChanged(ctx, 1)), uint64(2), nil)
 	}
-	want(t, "a cut", only(shared.Checkpoint()), nil, nil)
-	want(t, "behind it", of(shared.WaitChanged(done, 0)), uint64(2), nil)
-	want(t, "not recorded", of(shared.WaitChanged(done, 2)), uint64(2), context.Canceled)
+	want(t, "a cut", only(table.Checkpoint()), nil, nil)
+	want(t, "behind it", of(table.WaitChanged(done, 0)), uint64(2), nil)
+	want(t, "not recorded", of(table.WaitChanged(done, 2)), uint64(2), context.Canceled)
 }
 
 // A call wakes each that waits for it, and no query or cut does. One that waits for more goes on.
 func TestEachThatWaitsIsWoken(t *testing.T) {
-	shared := openShared(t, Settings{PidMax: 32768, Workers: 1})
+	table := open(t, withHistory(1))
 	ctx, cancel := context.WithCancel(context.Background())
 	defer cancel()
 	var first []<-chan told
 	for i := 0; i < 8; i++ {
-		first = append(first, waiting([]context.Context{ctx, context.Background()}[i%2], shared, 0))
+		first = append(first, waiting([]context.Context{ctx, context.Background()}[i%2], table, 0))
 	}
-	last, seat := waiting(ctx, shared, 2), seatOf(t, shared)
+	last, seat := waiting(ctx, table, 2), seatOf(t, table)
 	time.Sleep(short)
-	want(t, "a query", of(shared.Ask(Call{Operation: OpGetpid, Caller: 1})), Reply{Kind: ReplyNumber, First: 1}, nil)
-	want(t, "a cut", only(shared.Checkpoint()), nil, nil)
+	want(t, "a query", of(table.Ask(Call{Operation: OpGetpid, Caller: 1})), Reply{Kind: ReplyNumber, First: 1}, nil)
+	want(t, "a cut", only(table.Checkpoint()), nil, nil)
 	time.Sleep(short)
 	for _, it := range first {
 		if isOver(it) {
@@ -77,11 +77,11 @@ func TestEachThatWaitsIsWoken(t *testing.T) {
 
 // The calls of a replay are told of too.
 func TestAReplayWakes(t *testing.T) {
-	shared, other := openShared(t, Settings{PidMax: 32768, Workers: 1}), openShared(t, Settings{PidMax: 32768, Workers: 1})
-	forked(t, seatOf(t, shared), 3)
+	table, other := open(t, withHistory(1)), open(t, withHistory(1))
+	forked(t, seatOf(t, table), 3)
 	waiter := waiting(context.Background(), other, 0)
 	time.Sleep(short)
-	entries, err := shared.Entries(0, 3)
+	entries, err := table.Entries(0, 3)
 	want(t, "entries", only(err), nil, nil)
 	want(t, "a replay", only(other.Replay(entries)), nil, nil)
 	want(t, "the waiter", <-waiter, uint64(3), nil)
@@ -89,36 +89,36 @@ func TestAReplayWakes(t *testing.T) {
 
 // A context ends the wait that has it, and no other. A deadline never comes too early.
 func TestAContextEndsAWait(t *testing.T) {
-	shared := openShared(t, Settings{PidMax: 32768, Workers: 1})
+	table := open(t, withHistory(1))
 	ctx, cancel := context.WithCancel(context.Background())
-	ended, other := waiting(ctx, shared, 0), waiting(context.Background(), shared, 0)
+	ended, other := waiting(ctx, table, 0), waiting(context.Background(), table, 0)
 	time.Sleep(short)
 	cancel()
 	want(t, "cancelled", <-ended, uint64(0), context.Canceled)
 	begun := time.Now()
 	late, end := context.WithTimeout(context.Background(), short)
 	defer end()
-	want(t, "too late", of(shared.WaitChanged(late, 0)), uint64(0), context.DeadlineExceeded)
+	want(t, "too late", of(table.WaitChanged(late, 0)), uint64(0), context.DeadlineExceeded)
 	if time.Since(begun) < short {
 		t.Error("too early")
 	}
 	if isOver(other) {
 		t.Error("woken by another's context")
 	}
-	ask(t, seatOf(t, shared))
+	ask(t, seatOf(t, table))
 	want(t, "the other", <-other, uint64(1), nil)
 	//lint:ignore SA1012 what a caller may do by mistake
-	want(t, "nil", of(shared.WaitChanged(nil, 0)), uint64(0), ErrNil)
+	want(t, "nil", of(table.WaitChanged(nil, 0)), uint64(0), ErrNil)
 }
 
 // A wait that is over leaves no goroutine.
 func TestAWaitLeavesNothing(t *testing.T) {
-	shared := openShared(t, Settings{PidMax: 32768, Workers: 1})
-	seat, before := seatOf(t, shared), runtime.NumGoroutine()
+	table := open(t, withHistory(1))
+	seat, before := seatOf(t, table), runtime.NumGoroutine()
 	ctx, cancel := context.WithCancel(context.Background())
 	defer cancel()
 	for ordinal := uint64(0); ordinal < 50; ordinal++ {
-		waiter := waiting(ctx, shared, ordinal)
+		waiter := waiting(ctx, table, ordinal)
 		time.Sleep(time.Millisecond)
 		ask(t, seat)
 		want(t, "a waiter", <-waiter, ordinal+1, nil)
@@ -132,33 +132,33 @@ func TestAWaitLeavesNothing(t *testing.T) {
 }
 
 func TestAClosedTableLetsNobodyWait(t *testing.T) {
-	shared := openShared(t, Settings{PidMax: 32768, Workers: 1})
+	table := open(t, withHistory(1))
 	ctx, cancel := context.WithCancel(context.Background())
 	defer cancel()
-	waiters := []<-chan told{waiting(ctx, shared, 0), waiting(context.Background(), shared, math.MaxUint64)}
+	waiters := []<-chan told{waiting(ctx, table, 0), waiting(context.Background(), table, math.MaxUint64)}
 	time.Sleep(short)
-	shared.Close()
+	table.Close()
 	for _, it := range waiters {
 		want(t, "a waiter", <-it, uint64(0), ErrClosed)
 	}
-	want(t, "a later one", of(shared.WaitChanged(ctx, 0)), uint64(0), ErrClosed)
-	want(t, "none", of(new(Shared).WaitChanged(ctx, 0)), uint64(0), ErrClosed)
+	want(t, "a later one", of(table.WaitChanged(ctx, 0)), uint64(0), ErrClosed)
+	want(t, "none", of(new(Table).WaitChanged(ctx, 0)), uint64(0), ErrClosed)
 }
 
 // Each call wakes the saver and who waits, and the end of one is not that of the other.
 func TestAWaitBesideASaver(t *testing.T) {
-	shared, ended := openShared(t, Settings{PidMax: 32768, Workers: 1}), make(chan error, 1)
-	saved, seat := new(Saved), seatOf(t, shared)
-	go func() { ended <- shared.Serve(new(bytes.Buffer), saved, 0, nil) }()
+	table, ended := open(t, withHistory(1)), make(chan error, 1)
+	saved, seat := new(Saved), seatOf(t, table)
+	go func() { ended <- table.Serve(new(bytes.Buffer), saved, 0, nil) }()
 	for ordinal := uint64(0); ordinal < 200; ordinal++ {
-		waiter := waiting(context.Background(), shared, ordinal)
+		waiter := waiting(context.Background(), table, ordinal)
 		ask(t, seat)
 		want(t, "a waiter", <-waiter, ordinal+1, nil)
-		want(t, "saved", only(shared.WaitSaved(ordinal)), nil, nil)
+		want(t, "saved", only(table.WaitSaved(ordinal)), nil, nil)
 	}
-	waiter := waiting(context.Background(), shared, 200)
+	waiter := waiting(context.Background(), table, 200)
 	time.Sleep(short)
-	shared.EndSaving()
+	table.EndSaving()
 	want(t, "the saver", only(<-ended), nil, nil)
 	time.Sleep(short)
 	if isOver(waiter) {
@@ -185,9 +185,9 @@ func workOn(t *testing.T, seat *Seat) {
 }
 
 // followOn follows to the end of the context: the replica's text, and how many calls it has made.
-func followOn(ctx context.Context, t *testing.T, shared *Shared, replica *Table) (string, uint64) {
+func followOn(ctx context.Context, t *testing.T, table *Table, replica *Table) (string, uint64) {
 	for next := uint64(0); ; {
-		recorded, err := shared.WaitChanged(ctx, next)
+		recorded, err := table.WaitChanged(ctx, next)
 		if errors.Is(err, context.Canceled) {
 			text, err := replica.Dump()
 			if err != nil {
@@ -197,7 +197,7 @@ func followOn(ctx context.Context, t *testing.T, shared *Shared, replica *Table)
 		}
 		before := next
 		if err == nil {
-			next, err = shared.Follow(replica, next)
+			next, err = table.Follow(replica, next)
 		}
 		if err != nil || recorded <= before || next < recorded {
 			t.Fatal(before, recorded, next, err)
@@ -207,17 +207,17 @@ func followOn(ctx context.Context, t *testing.T, shared *Shared, replica *Table)
 
 // The calls of four goroutines, to the last one.
 func TestWhoFollowsToTheEnd(t *testing.T) {
-	shared, replica := openShared(t, Settings{PidMax: 32768, Workers: watchers}), open(t, 32768)
+	table, replica := open(t, withHistory(watchers)), open(t, Settings{})
 	ctx, cancel := context.WithCancel(context.Background())
 	var text string
 	var calls uint64
 	follower, busy := make(chan struct{}), new(sync.WaitGroup)
 	go func() {
 		defer close(follower)
-		text, calls = followOn(ctx, t, shared, replica)
+		text, calls = followOn(ctx, t, table, replica)
 	}()
 	for i := 0; i < watchers; i++ {
-		seat := seatOf(t, shared)
+		seat := seatOf(t, table)
 		busy.Add(1)
 		go func() {
 			defer busy.Done()
@@ -227,6 +227,6 @@ func TestWhoFollowsToTheEnd(t *testing.T) {
 	busy.Wait()
 	cancel()
 	<-follower
-	want(t, "the text", of(shared.Dump()), text, nil)
+	want(t, "the text", of(table.Dump()), text, nil)
 	want(t, "calls", of(calls, nil), uint64(watchers*(3*watchedEach-(watchedEach+2)/3)), nil)
 }

@@ -22,7 +22,7 @@ func forkOf(caller uint32) Call { return Call{Operation: OpFork, Caller: caller}
 func childIn(reply Reply) Child { return Child{uint32(reply.First), uint32(reply.Second)} }
 
 func TestAForkAsTold(t *testing.T) {
-	table := open(t, 32768)
+	table := open(t, Settings{})
 	if _, err := table.Fork(1, NewNamespace); err != nil {
 		t.Fatal(err)
 	}
@@ -59,14 +59,14 @@ func TestAForkAsTold(t *testing.T) {
 
 func TestSeatsForkAsTold(t *testing.T) {
 	const workers, forks = 4, 200
-	shared, err := OpenShared(Settings{PidMax: 32768, Workers: workers, Keep: 10})
+	table, err := Open(Settings{Workers: workers, Keep: 10, Threads: true})
 	if err != nil {
 		t.Fatal(err)
 	}
-	defer shared.Close()
+	defer table.Close()
 	var all sync.WaitGroup
 	for range [workers]int{} {
-		seat, err := shared.Seat()
+		seat, err := table.Seat()
 		if err != nil {
 			t.Fatal(err)
 		}
@@ -74,7 +74,7 @@ func TestSeatsForkAsTold(t *testing.T) {
 		go func() {
 			defer all.Done()
 			for count := 0; count < forks; {
-				told, err := shared.Would(forkOf(1))
+				told, err := table.Would(forkOf(1))
 				if err != nil {
 					t.Error(err)
 					return
@@ -91,11 +91,11 @@ func TestSeatsForkAsTold(t *testing.T) {
 		}()
 	}
 	all.Wait()
-	counts, err := shared.Counts()
+	counts, err := table.Counts()
 	if err != nil || counts.Recorded != workers*forks {
 		t.Fatal(counts, err)
 	}
-	if told, err := shared.Ask(Call{Operation: OpCount}); err != nil || told.First != workers*forks+1 {
+	if told, err := table.Ask(Call{Operation: OpCount}); err != nil || told.First != workers*forks+1 {
 		t.Fatal(told, err)
 	}
 }

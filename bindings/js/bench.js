@@ -4,7 +4,7 @@ import { resolve } from "node:path";
 import { pathToFileURL } from "node:url";
 
 const folder = process.argv[2] ?? "out/js";
-const { Record, Table } = await import(pathToFileURL(resolve(folder, "pidtab.js")));
+const { Table } = await import(pathToFileURL(resolve(folder, "pidtab.js")));
 const TURNS = 20;
 
 /** Prints the least time of a call. */
@@ -42,7 +42,7 @@ for (let made = 0; made < 10000; made++) table.fork(1);
 time("fork, exit and wait among 10,000", 50000, () => cycle(table));
 time("a table", 200, () => new Table().close());
 
-const record = new Record({ workers: 1, pidMax: 4194304 });
-const seat = record.seat();
+const kept = new Table({ keep: Infinity, pidMax: 4194304 });
+const seat = kept.seat();
 time("getpid by a seat", 50000, () => seat.getpid(1));
-record.checkpoint();
+kept.checkpoint();

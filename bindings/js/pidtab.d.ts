@@ -6,7 +6,7 @@
 // are no object or have a key that is not known; a number out of range is a RangeError. Then no call was made.
 //
 // A call that the table refuses throws a Refusal; each method names the words that it may have. Where there is no memory, `fork`, `mk`, `list`, `dump`
-// and each call of a Record throw NoMemory. After 2^64 - 2 calls each throws Spent. What throws has changed nothing, but that a refused call uses a
+// and each call of a table with a history throw NoMemory. After 2^64 - 2 calls each throws Spent. What throws has changed nothing, but that a refused call uses a
 // stamp, or is recorded. After `close` all throw TableClosed.
 
 /** The `pidMax` where none is given: numbers are below it. */
@@ -276,55 +276,41 @@ type LineOfCall = { [Name in keyof EachCall]: (...taken: Parameters<EachCall[Nam
 export class Lines {}
 export interface Lines extends LineOfCall {}
 
-/** A table. One that nobody has any more is freed, closed or not. */
+/** With what a table is opened. */
+export interface Settings {
+  /** All numbers are below it: 301 to 4194304; by default 32768. */
+  pidMax?: number;
+  /** How many entries of the history are kept at most, and a call that makes more cuts the first; Infinity: all of them, by 64 bytes a call. By default 0: no
+   * history. */
+  keep?: Long;
+  /** How many seats there are: 1 to 16, and 1 without a history; by default 1. */
+  workers?: number;
+  /** The stamp of the first call, as the id of what it makes, 1 to 2^64 - 1; each later call has the next. By default 1n. */
+  firstStamp?: Long;
+}
+
+/** With what a table is made of a text. */
+export interface LoadSettings {
+  keep?: Long;
+  /** By default as many as `recorded` has, or 1. */
+  workers?: number;
+  /** How many calls of each worker there were before, with `keep` alone; by default 0. Their sum is the ordinal of the next call. */
+  recorded?: Iterable<Long>;
+}
+
+/** A table. Its own calls are those of worker 0. One that nobody has any more is freed, closed or not.
+ *
+ * What reads or cuts a history throws NoHistory where the table was opened without `keep`. */
 export class Table implements Calls {
-  /** A table with process 1 alone; `pidMax` is 301 to 4194304. */
-  constructor(options?: { pidMax?: number });
-  /** A table as a text of `dump` says: each later call has the answer that it would have had there. Any text may be given: BadText says why it is none. */
-  static load(text: string | Uint8Array): Table;
-  /** All that there is to know of the table, as text (docs/SCRIPT.md). It costs a copy of the table. */
-  dump(): string;
-  /** Names a task, by its root number, in `list`; null takes the name away. It is no call, and the text of the table does not have it. The name goes
-   * when the number is another task's. A label is printable text of one line: else a RangeError. no-task. */
-  label(task: number, text: string | null): void;
-}
-export interface Table extends Calls {}
-
-/** The calls of one worker of a record. They are recorded, each with its reply. */
-export interface Seat extends Calls {
-  readonly worker: number;
-  /** The place of the seat's latest call in the history, from 0 on; null before the first. */
-  readonly ordinal: bigint | null;
-}
-
-/** A recorded call: its place, the worker that made it, its line, and the answer to the line. */
-export interface Entry {
-  ordinal: bigint;
-  worker: number;
-  line: string;
-  answer: string;
-}
-
-/** The ordinal of the first kept entry, and how many calls were recorded, the cut ones too. */
-export interface Counts {
-  firstKept: bigint;
-  recorded: bigint;
-}
-
-/** A table with its history, for 1 to 16 workers. The history takes 64 bytes a call until a checkpoint cuts it. */
-export class Record {
-  /** The first call has the first stamp, 1 to 2^64 - 1, as the id of what it makes; each later one has the next. By default 4 workers and 1n. */
-  constructor(options?: { workers?: number; pidMax?: number; firstStamp?: Long });
-  /** A record as a text of `dump` says, whose history begins there. `recorded` says how many calls of each worker there were before; their sum is the
-   * ordinal of the next. BadText, and a RangeError where they are as many as the stamp of the text. */
-  static load(text: string | Uint8Array, options?: { workers?: number; recorded?: Iterable<Long> }): Record;
+  /** A table with process 1 alone. A RangeError for settings out of their ranges, as several workers without a history. */
+  constructor(settings?: Settings);
+  /** A table as a text of `dump` says: each later call has the answer that it would have had there. Any text may be given: BadText says why it is none.
+   * A history begins there. A RangeError where the calls of `recorded` are as many as the stamp of the text. */
+  static load(text: string | Uint8Array, settings?: LoadSettings): Table;
+  /** A bigint, or Infinity. */
+  readonly keep: Long;
   readonly workers: number;
-  readonly pidMax: number;
   readonly firstStamp: bigint;
-  /** The queries that are no calls. */
-  readonly ask: Ask;
-  /** What each call would answer. */
-  readonly would: EachCall;
   /** The seat of the next worker, from 0 on. SeatsTaken where each has its own. */
   seat(): Seat;
   counts(): Counts;
@@ -340,13 +326,33 @@ export class Record {
   checkpoint(): void;
   /** The same where exactly so many calls were recorded. Whether it was cut. */
   checkpointAt(seen: Long): boolean;
-  list(): Listing;
-  listText(): string;
-  /** As that of a table: the name is in the record's `list`. */
-  label(task: number, text: string | null): void;
+  /** All that there is to know of the table, as text (docs/SCRIPT.md), without its history. It costs a copy of the table. */
   dump(): string;
-  /** Ends it, with its seats. */
-  close(): void;
+  /** Names a task, by its root number, in `list`; null takes the name away. It is no call, and the text of the table does not have it. The name goes
+   * when the number is another task's. A label is printable text of one line: else a RangeError. no-task. */
+  label(task: number, text: string | null): void;
+}
+export interface Table extends Calls {}
+
+/** The calls of one worker. With a history they are recorded, each with its reply. */
+export interface Seat extends Calls {
+  readonly worker: number;
+  /** The place of the seat's latest call in the history, from 0 on; null before the first, and without a history. */
+  readonly ordinal: bigint | null;
+}
+
+/** A recorded call: its place, the worker that made it, its line, and the answer to the line. */
+export interface Entry {
+  ordinal: bigint;
+  worker: number;
+  line: string;
+  answer: string;
+}
+
+/** The ordinal of the first kept entry, and how many calls were recorded, the cut ones too. */
+export interface Counts {
+  firstKept: bigint;
+  recorded: bigint;
 }
 
 /** What all faults of a table are. */
@@ -374,6 +380,8 @@ export class Spent extends PidtabError {}
 export class TableClosed extends PidtabError {}
 /** ENOENT: the history has no such entry. */
 export class NotKept extends PidtabError {}
+/** EOPNOTSUPP: the table keeps no history. */
+export class NoHistory extends PidtabError {}
 /** EUSERS: each worker has its seat. */
 export class SeatsTaken extends PidtabError {}
 

@@ -14,9 +14,8 @@ async function readBeside(name) {
 useModule(await WebAssembly.compile(await readBeside("./pidtab.wasm")));
 
 export { DEFAULT_PID_MAX, GREATEST_PID_MAX, LEAST_PID_MAX } from "./src/header.js";
-export { BadLine, BadText, Differs, NoMemory, NotKept, PidtabError, Refusal, SeatsTaken, Spent, TableClosed } from "./src/faults.js";
+export { BadLine, BadText, Differs, NoHistory, NoMemory, NotKept, PidtabError, Refusal, SeatsTaken, Spent, TableClosed } from "./src/faults.js";
 export { toJson } from "./src/json.js";
 export { Lines } from "./src/lines.js";
 export { readListing } from "./src/listing.js";
-export { Record } from "./src/record.js";
 export { Table } from "./src/table.js";

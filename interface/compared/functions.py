@@ -11,9 +11,9 @@ DECLARED = r"^(?!static)\w[\w ]*[ *]pidtab_(\w+)\("
 
 # The files of each package.
 FILES = {
-    "python": tuple(f"bindings/python/pidtab/{name}.py" for name in ("calls", "history", "native", "number_calls", "saving", "seat", "table", "waiting")),
-    "rust": tuple(f"bindings/rust/src/{name}.rs" for name in ("blocks", "calls", "lib", "saved", "shared")),
-    "go": tuple(f"bindings/go/{name}.go" for name in ("calls", "dump", "replica", "saved", "saver", "shared", "table", "values")),
+    "python": tuple(f"bindings/python/pidtab/{name}.py" for name in ("calls", "history", "number_calls", "saving", "seat", "table", "waiting")),
+    "rust": tuple(f"bindings/rust/src/{name}.rs" for name in ("blocks", "calls", "history", "options", "saved", "seat", "table", "threads")),
+    "go": tuple(f"bindings/go/{name}.go" for name in ("calls", "dump", "history", "replica", "saved", "saver", "table", "values", "workplace")),
     "javascript": ("bindings/js/pidtab.d.ts",),
 }
 PATHS = (*HEADERS, *(path for paths in FILES.values() for path in paths))
@@ -35,11 +35,12 @@ def classes_of(text, owner):
 
 
 def has_method(language, text, owner, method):
-    """Whether the package has the method. In Go those of the calls are methods of a table and a seat too, and in Python those of all that it is derived from."""
+    """Whether the package has the method. In Go those of calls and workplaces are methods of a table and a seat too, and in Python those of all that it is derived from."""
     if language == "python":
         owner = f"(?:{'|'.join(classes_of(text, owner))})"
     if language == "go":
-        return re.search(rf"^func \(\w+ \*?(?:{owner}|calls)\) {method}\(", text, re.MULTILINE)
+        owners = "|".join([owner, *(("calls", "workplace") if owner in ("Table", "Seat") else ())])
+        return re.search(rf"^func \(\w+ \*?(?:{owners})\) {method}\(", text, re.MULTILINE)
     body, declared = BODIES[language]
     found = re.finditer(body.replace("{}", owner).replace("{{", "{").replace("}}", "}"), text, re.MULTILINE)
     return any(re.search(declared.replace("{}", method), it.group(1), re.MULTILINE) for it in found)

@@ -1,7 +1,7 @@
-use pidtab::{Calls, Error, Table};
+use pidtab::{Error, Table};
 
 /// Ends tasks, and first the children of each. The root init sees all by their root numbers.
-fn end_all(table: &mut Table, tasks: Vec<u32>) -> Result<(), Error> {
+fn end_all(table: &Table, tasks: Vec<u32>) -> Result<(), Error> {
     for task in tasks {
         let children = table.children(1, task, 0)?;
         end_all(table, children)?;
@@ -12,13 +12,13 @@ fn end_all(table: &mut Table, tasks: Vec<u32>) -> Result<(), Error> {
     Ok(())
 }
 
-let mut table = Table::open(32768)?;
-table.fork(1, false)?;
+let table = Table::open(32768)?;
+table.fork(1)?;
 table.setpgid(1, 2, 2)?;
-table.fork(2, false)?;
+table.fork(2)?;
 table.setsid(3)?;
 let members = table.group_members(1, 2, 0)?;
-end_all(&mut table, members)?;
+end_all(&table, members)?;
 assert_eq!(table.children(1, 0, 0)?, [2, 3]);
 assert!(table.stat(1, 3)?.ended().is_some());
 # Ok::<(), Error>(())

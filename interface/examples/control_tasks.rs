@@ -1,4 +1,4 @@
-use pidtab::{Calls, Error, Table};
+use pidtab::{Error, Table};
 
 /// The control group, and then each directly inside it, with their live tasks, as `systemd-cgls` has them.
 fn tree(table: &Table, id: u64, depth: usize) -> Result<String, Error> {
@@ -9,14 +9,14 @@ fn tree(table: &Table, id: u64, depth: usize) -> Result<String, Error> {
     Ok(said)
 }
 
-let mut table = Table::open(32768)?;
+let table = Table::open(32768)?;
 let service = table.mk(0)?;
 let worker = table.mk(service)?;
-table.fork(1, false)?;
+table.fork(1)?;
 table.move_task(2, service)?;
-table.fork(2, false)?;
-table.fork(2, false)?;
-table.fork(2, false)?;
+table.fork(2)?;
+table.fork(2)?;
+table.fork(2)?;
 table.move_task(4, worker)?;
 // A zombie counts, and is no live task.
 table.exit(5, 0)?;

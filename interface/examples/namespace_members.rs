@@ -1,4 +1,4 @@
-use pidtab::{Calls, Error, Table};
+use pidtab::{Error, Table};
 
 /// Whom a kill of -1 reaches, by their root numbers: not the init, which is 1 there, and not the caller. To a zombie it does nothing.
 fn reached(table: &Table, caller: u32) -> Result<Vec<u32>, Error> {
@@ -13,11 +13,11 @@ fn reached(table: &Table, caller: u32) -> Result<Vec<u32>, Error> {
 }
 
 // 2 is the init of a namespace, and 3, 4 and 5 are its children. 4 is a zombie, and 5 is the init of a namespace within it.
-let mut table = Table::open(32768)?;
-table.fork(1, true)?;
-table.fork(2, false)?;
-table.fork(2, false)?;
-table.fork(2, true)?;
+let table = Table::open(32768)?;
+table.fork_new(1)?;
+table.fork(2)?;
+table.fork(2)?;
+table.fork_new(2)?;
 table.exit(4, 0)?;
 assert_eq!(reached(&table, 1)?, [2, 3, 5]);
 assert_eq!(reached(&table, 3)?, [5]);

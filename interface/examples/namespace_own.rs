@@ -1,10 +1,10 @@
-use pidtab::{Calls, Table};
+use pidtab::Table;
 
 // 2 is the init of a namespace, in which is its child 3, and 4 that of one within it.
-let mut table = Table::open(32768)?;
-table.fork(1, true)?;
-table.fork(2, false)?;
-table.fork(3, true)?;
+let table = Table::open(32768)?;
+table.fork_new(1)?;
+table.fork(2)?;
+table.fork_new(3)?;
 // Each namespace with its own tasks, from the root inwards. Where the init was reaped, nobody is left but zombies.
 let (mut told, mut spaces) = (Vec::new(), vec![0]);
 while let Some(id) = spaces.pop() {

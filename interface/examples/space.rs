@@ -1,9 +1,9 @@
-use pidtab::{Calls, Table};
+use pidtab::Table;
 
 // 2 is the init of a namespace, and 3 that of one within it, which ends.
-let mut table = Table::open(32768)?;
-table.fork(1, true)?;
-table.fork(2, true)?;
+let table = Table::open(32768)?;
+table.fork_new(1)?;
+table.fork_new(2)?;
 table.exit(3, 0)?;
 // The namespaces that it was in, from its own outwards.
 let (mut id, mut told) = (table.stat(1, 3)?.space(), Vec::new());

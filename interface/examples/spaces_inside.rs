@@ -1,8 +1,8 @@
-use pidtab::{Calls, Table};
+use pidtab::Table;
 
-let mut table = Table::open(32768)?;
-table.fork(1, true)?;
-table.fork(2, true)?;
+let table = Table::open(32768)?;
+table.fork_new(1)?;
+table.fork_new(2)?;
 table.mk(0)?;
 assert_eq!(table.spaces_inside(0, 0)?, Some(vec![1]));
 assert_eq!(table.spaces_inside(1, 0)?, Some(vec![2]));

@@ -1,7 +1,7 @@
-use pidtab::{Calls, Table};
+use pidtab::Table;
 
-let mut table = Table::open(32768)?;
-table.fork(1, true)?;
+let table = Table::open(32768)?;
+table.fork_new(1)?;
 let task = table.stat(1, 2)?;
 assert_eq!((task.numbers(), task.parent(), task.ended()), (&[2, 1][..], 1, None));
 # Ok::<(), pidtab::Error>(())

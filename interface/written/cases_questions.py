@@ -36,11 +36,11 @@ def in_c(tables):
 
 def in_rust(tables):
     """The same as what it tells, in words."""
-    lines = ["#[rustfmt::skip]", "macro_rules! question {", "    ($it:expr, $word:expr, $n:expr) => { match $word {"]
+    lines = ["/// What a question tells; none for a step that is no question.", "#[rustfmt::skip]", "fn question(table: &Table, word: &str, n: &[u64]) -> Option<String> {", "    Some(match word {"]
     for row in asked(tables):
-        given = ", ".join(f"${it}" for it in numbers(row, "n[{}] as u32"))
-        lines.append(f'        "{row.question}" => {SAYS.get(row.tells, f"say_{row.tells}_stat")}($it.{row.question}({given})),')
-    return [*lines, "        _ => return None,", "    } };", "}"]
+        given = ", ".join(numbers(row, "n[{}] as u32"))
+        lines.append(f'        "{row.question}" => {SAYS.get(row.tells, f"say_{row.tells}_stat")}(table.{row.question}({given})),')
+    return [*lines, "        _ => return None,", "    })", "}"]
 
 
 def in_go(tables):

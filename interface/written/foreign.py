@@ -8,17 +8,20 @@ RAW = "bindings/rust/src/raw.rs"
 STRUCTS = ("call", "fault", "reply", "task", "space", "effect", "entry", "saved_head")
 IN_MEMORY = ("saved_put_head", "saved_put", "saved_take_head", "saved_take", "saved_next")
 
-# What closes is called where the owner is dropped, and what keeps so many entries by none.
-BY_HAND = ("close", "call_keeping")
-MAKES = ("open", "load")
+# What the package for Rust has besides, and the functions of pidtab.h that it does without: worker 0's, for which others have a worker, and those
+# of the lock, as it has one of its own.
+OF_RUST = ("settings",)
+UNUSED = ("open", "load", "line", "fork_at", "call_told", "lock", "unlock", "follow", "await", "end")
+# Those on a table that are no methods: what opens it, and what closes it where its owner is dropped.
+BY_HAND = ("open_with", "load_with", "close")
 
-NUMBERS = {"uint32_t": "u32", "uint64_t": "u64", "int32_t": "i32", "size_t": "usize", "bool": "bool", "int": "i32"}
+NUMBERS = {"uint32_t": "u32", "uint64_t": "u64", "int32_t": "i32", "uint8_t": "u8", "size_t": "usize", "bool": "bool", "int": "i32"}
 
 
 def camel_struct(kind):
-    """Call of `struct pidtab_call`; a table and a record are held alike."""
+    """Call of `struct pidtab_call`; a table is held."""
     name = kind.replace("const ", "").replace("struct pidtab", "").strip(" *_")
-    return "Held" if name in ("", "record") else "".join(part.capitalize() for part in name.split("_"))
+    return "Held" if name == "" else "".join(part.capitalize() for part in name.split("_"))
 
 
 def rust_type(kind):
@@ -39,29 +42,43 @@ def broken(indent, head, parts, tail, most=100):
     return [f"{indent}{head}(", *[f"{indent}    {part}," for part in parts], f"{indent}){tail}"]
 
 
-def functions(tables):
+def functions_of(tables):
     """The functions that the package for Rust calls."""
     of = tables["headers"]
-    found = [*of.of("pidtab.h"), *[it for it in of.of("pidtab_saved.h") if it.name in IN_MEMORY]]
-    lines = ["#[allow(dead_code)] // Not each is used here.", 'extern "C" {']
-    for it in found:
-        lines += broken("    ", f"fn pidtab_{it.name}", [f"{name}: {rust_type(kind)}" for kind, name, _ in it.arguments], f" -> {rust_type(it.result)};")
+    found = [it for it in of.of("pidtab.h") if it.name not in UNUSED and not it.name.endswith(TYPED)]
+    return [*found, *[it for it in of.of("pidtab_saved.h") if it.name in IN_MEMORY]]
+
+
+def functions(tables):
+    """Their declarations."""
+    lines = ["#[rustfmt::skip]", 'extern "C" {']
+    for it in functions_of(tables):
+        taken = ", ".join(f"{name}: {rust_type(kind)}" for kind, name, _ in it.arguments)
+        lines.append(f"    fn pidtab_{it.name}({taken}) -> {rust_type(it.result)};")
     return [*lines, "}"]
 
 
+def field_type(field):
+    """The type of a field. What a pointer leads to is the library's alone."""
+    kind = "*mut c_void" if field.kind.endswith("*") else rust_type(field.kind)
+    return f"[{kind}; LEVELS_MAX]" if field.many else kind
+
+
+def struct(tables, name, derived=(), access="pub(crate) "):
+    """A struct."""
+    fields = tables["headers"].structs[name]
+    lines = ["", f"/// `struct {name}`.", "#[repr(C)]", *derived, f"{access}struct {camel_struct(f'struct {name}')} {{"]
+    return [*lines, *[f"    {access}{it.name}: {field_type(it)}," for it in fields], "}"]
+
+
 def structs(tables):
-    """The structs, and each with nothing except zeroes."""
-    lines = []
-    for name in STRUCTS:
-        fields, camel = tables["headers"].structs[f"pidtab_{name}"], camel_struct(f"pidtab_{name}".replace("pidtab", "struct pidtab"))
-        types = [f"[{rust_type(it.kind)}; LEVELS_MAX]" if it.many else rust_type(it.kind) for it in fields]
-        blanks = ["[0; LEVELS_MAX]" if it.many else f"{kind}::BLANK" if kind[0].isupper() else "0" for it, kind in zip(fields, types)]
-        lines += ["", f"/// `struct pidtab_{name}`.", "#[repr(C)]", "#[derive(Clone, Copy, Debug, PartialEq)]", f"pub(crate) struct {camel} {{"]
-        lines += [f"    pub(crate) {it.name}: {kind}," for it, kind in zip(fields, types)]
-        told = [f"{it.name}: {blank}" for it, blank in zip(fields, blanks)]
-        many = [f"{camel} {{", *[f"        {it}," for it in told], "    };"]
-        begin, *rest = [f"{camel} {{ {', '.join(told)} }};"] if len(", ".join(told)) <= 18 else many
-        lines += ["}", "", f"impl {camel} {{", f"    pub(crate) const BLANK: {camel} = {begin}", *rest, "}"]
+    """The structs, and each of zeroes. A table has one owner, and its fields are the library's."""
+    lines, names = struct(tables, "pidtab", access=""), [f"pidtab_{it}" for it in STRUCTS]
+    for name in (*names, *[f"pidtab_{it}" for it in OF_RUST]):
+        lines += struct(tables, name, ["#[derive(Clone, Copy, Debug, PartialEq)]"])
+    for name in ("pidtab", *names):
+        camel = camel_struct(f"struct {name}")
+        lines += ["", f"impl {camel} {{", "    // SAFETY: each field may be zero.", f"    pub(crate) const BLANK: {camel} = unsafe {{ zeroed() }};", "}"]
     return lines[1:]
 
 
@@ -81,44 +98,18 @@ def lent(arguments):
     return taken, passed
 
 
-def maker(function, owner, ending, taken, passed):
-    """What opens an owner: a struct of zeroes, and the function on it."""
-    call = broken("", f"pidtab_{function.name}", ["&mut *held", *passed], "", 60)
-    one = f"        let status = unsafe {{ {call[0]} }};"
-    many = broken("            ", f"pidtab_{function.name}", ["&mut *held", *passed], "", 60)
-    return [
-        "", *broken("    ", f"pub(crate) fn {ending}", taken, f" -> Result<{owner}, u32> {{"), "        compare_versions();", "        let mut held = Held::none();",
-        "        // SAFETY: the first pointer is to a struct of zeroes that is this call's alone; each other is that of a reference or of a slice.",
-        *([one] if len(call) == 1 and len(one) <= 100 else ["        let status = unsafe {", *many, "        };"]),
-        f"        done(status, {owner} {{ held }})", "    }",
-    ]  # fmt: skip
-
-
-def methods(tables, prefix):
-    """A method for each function on a table or a record that is open."""
+def methods(tables):
+    """A method for each function on an open table."""
     lines = []
-    for it in tables["headers"].of("pidtab.h", prefix):
+    for it in functions_of(tables):
         owner, *arguments = it.arguments or [None]
-        ending = it.name[len(prefix) :]
-        if owner is None or owner.kind.replace("const ", "") != f"struct pidtab{'_record' if prefix else ''} *" or ending in BY_HAND or it.name.endswith(TYPED):
+        if owner is None or owner.kind.replace("const ", "") != "struct pidtab *" or it.name in BY_HAND:
             continue
-        is_query = owner.kind.startswith("const ")
         taken, passed = lent(arguments)
-        if ending in MAKES:
-            lines += maker(it, "Record" if prefix else "Table", ending, taken, passed)
-            continue
-        call = broken("            ", f"pidtab_{it.name}", [f"&{'' if is_query else 'mut '}*self.held", *passed], "", 60)
-        one = f"        unsafe {{ {call[0].strip()} }}"
-        lines += ["", *broken("    ", f"pub(crate) fn {ending}", [f"&{'' if is_query else 'mut '}self", *taken], " -> u32 {")]
-        lent_as = "to queries alone" if is_query else "to this call alone"
-        lines += [f"        // SAFETY: it is open and lent {lent_as}; each pointer is that of a reference or of a slice with that length."]
-        lines += [one, "    }"] if len(call) == 1 and len(one) <= 100 else ["        unsafe {", *call, "        }", "    }"]
+        lines += ["", f"    pub(crate) fn {it.name}({', '.join(['&self', *taken])}) -> u32 {{"]
+        lines += ["        // SAFETY: the table is open, and each other pointer is that of a reference or of a slice with that length."]
+        lines += [f"        unsafe {{ pidtab_{it.name}({', '.join(['self.held.get()', *passed])}) }}", "    }"]
     return lines[1:]
 
 
-PARTS = {
-    (RAW, "structs"): structs,
-    (RAW, "functions"): functions,
-    (RAW, "methods of a table"): lambda tables: methods(tables, ""),
-    (RAW, "methods of a record"): lambda tables: methods(tables, "record_"),
-}
+PARTS = {(RAW, "structs"): structs, (RAW, "functions"): functions, (RAW, "methods of a table"): methods}

@@ -92,6 +92,10 @@ def greatest(kind, tables):
     return None
 
 
+# The bounds of pid_max, and what stands for a 0.
+PID_MAX = (("defaultPidMax", "DEFAULT_PID_MAX"), ("leastPidMax", "LEAST_PID_MAX"), ("greatestPidMax", "GREATEST_PID_MAX"))
+
+
 def ranges(tables):
     """The bounds of what opens a table, and of the fields of calls."""
     bounds = {it.name: it.value for it in tables["bounds"]}
@@ -100,8 +104,8 @@ def ranges(tables):
         found = [(argument.name, *it) for argument in arguments_of(row) if (it := greatest(argument.kind, tables))]
         rows += [(f"\tOp{camel(row.call)}:", f'{{"{field}", "{name}", {most}}},') for name, field, most in found]
     return [
-        "", "// The bounds of pid_max.",
-        *constants([("leastPidMax", f"= {bounds['LEAST_PID_MAX']}"), ("greatestPidMax", f"= {bounds['GREATEST_PID_MAX']}")]), "",
+        "", "// The bounds of pid_max, and what it is where none is given.",
+        *constants([(name, f"= {bounds[bound]}") for name, bound in PID_MAX]), "",
         "// The greatest operation.", f"const lastOperation = Op{camel(tables['calls'][-1].call)}", "",
         "// The field of a call that is bounded, by its operation. All others may have any value.",
         "var bounded = map[Operation]bound{", *columns(rows), "}", "",

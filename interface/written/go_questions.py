@@ -1,15 +1,11 @@
 """The questions as methods of the package for Go, of a table and of one on many hosts."""
 
 from names import camel
-from questions import REPLY, all_arguments, arguments_of, has, sentences, with_function
-from tables import words_of
+from questions import REPLY, all_arguments, arguments_of, has, sentences
 from written.go_calls import TYPES, comment, lower, typed
 
 QUESTIONS = "bindings/go/questions.go"
 HOSTS = "bindings/go/cluster/queries.go"
-
-# Who answers for the functions of an owner: a type, its receiver, and the table of the library in it.
-HELD = {"": ("Table", "table", "&held.raw"), "record_": ("Shared", "shared", "held.raw")}
 
 # The errors for an id that nothing has: what a caller compares with, and what is told.
 ABSENT = {"namespace": ("ErrNoNamespace", "noSpace"), "control group": ("ErrNoControl", "noControl")}
@@ -17,8 +13,8 @@ ABSENT = {"namespace": ("ErrNoNamespace", "noSpace"), "control group": ("ErrNoCo
 KINDS = {**TYPES, "call": "Call", "query": "Call"}
 RANGES = {"call": "rangeFault", "query": "queryFault"}
 LISTS = {
-    "numbers": ("[]uint32", "allOf", "numbers *C.uint32_t, room C.size_t, reply *C.struct_pidtab_reply", "numbers, room, reply"),
-    "ids": ("[]uint64", "idsOf", "ids *C.uint64_t, room C.size_t, count *C.uint64_t", "ids, room, count"),
+    "numbers": ("[]uint32", "numbers *C.uint32_t, room C.size_t, reply *C.struct_pidtab_reply", "numbers, room, reply"),
+    "ids": ("[]uint64", "ids *C.uint64_t, room C.size_t, count *C.uint64_t", "ids, room, count"),
 }  # fmt: skip
 
 
@@ -32,10 +28,10 @@ def taken(row):
     return typed([(lower(it.name), KINDS[it.kind]) for it in arguments_of(row)])
 
 
-def passed(row, table):
+def passed(row):
     """What the function of the library takes."""
     casts = {"number": "C.uint32_t({})", "id": "C.uint64_t({})", "call": "&numbers", "query": "&numbers"}
-    return ", ".join([table, *[f"C.PIDTAB_{it.choice}" if it.choice else casts[it.kind].format(lower(it.name)) for it in all_arguments(row)]])
+    return ", ".join(["&held.raw", *[f"C.PIDTAB_{it.choice}" if it.choice else casts[it.kind].format(lower(it.name)) for it in all_arguments(row)]])
 
 
 def begin(text):
@@ -71,39 +67,44 @@ def absent(row):
     return f"{ABSENT[row.of][1]}({lower(next(it.name for it in arguments_of(row) if it.kind == 'id'))})"
 
 
-def body(row, function, receiver, table):
+def beside(row, place):
+    """The lines that read an answer into its place, beside other queries."""
+    return [
+        "\tstatus := table.beside(func(held *heldTable) C.uint32_t {", f"\t\treturn C.pidtab_{row.exports}({passed(row)}, {place})", "\t})",
+    ]  # fmt: skip
+
+
+def body(row):
     """The code of a method, by what it tells."""
-    call, kinds = f"C.pidtab_{function}({passed(row, table)}", {it.kind: it for it in arguments_of(row)}
-    lock = ["\theld.lock.RLock()", "\tdefer held.lock.RUnlock()"]
     if row.tells == REPLY:
-        kind = next(iter(kinds))
+        query = arguments_of(row)[0]
         return [
-            f"\theld, numbers, reply := {receiver}.held(), {lower(kinds[kind].name)}.numbers(), new(C.struct_pidtab_reply)", *lock,
-            f"\tif err := named({call}, reply), {lower(kinds[kind].name)}.{RANGES[kind]}); err != nil {{", "\t\treturn Reply{}, err", "\t}", "\treturn replyOf(reply), nil",
+            f"\tnumbers, reply := {lower(query.name)}.numbers(), new(C.struct_pidtab_reply)", *beside(row, "reply"),
+            f"\tif err := named(status, {lower(query.name)}.{RANGES[query.kind]}); err != nil {{", "\t\treturn Reply{}, err", "\t}", "\treturn replyOf(reply), nil",
         ]  # fmt: skip
+    may_be_absent = f"{absent(row)}, " if row.of != "-" else ""
     if row.tells in LISTS:
-        _, reads, places, given = LISTS[row.tells]
-        first = [f"\theld := {receiver}.held()", *lock]
-        page = f"{reads}({f'{absent(row)}, ' if row.of != '-' else ''}func({places}) C.uint32_t {{"
-        if row.refusals == "-":
-            return [*first, f"\treturn {page}", f"\t\treturn {call}, {given})", "\t})"]
-        return [*first, f"\tfound, err := {page}", f"\t\treturn {call}, {given})", "\t})", f"\treturn found, withCall(err, {asked(row)})"]
-    first = [f"\theld, {row.tells} := {receiver}.held(), new(C.struct_pidtab_{row.tells})", *lock]
-    told = f"{'stat' if row.tells == 'task' else lower(row.tells)}Of({f'{absent(row)}, ' if row.of != '-' else ''}{call}, {row.tells}), {row.tells})"
-    return [*first, f"\treturn {told}"] if row.refusals == "-" else [*first, f"\tfound, err := {told}", f"\treturn found, withCall(err, {asked(row)})"]
+        _, places, given = LISTS[row.tells]
+        page, call = f"table.{row.tells}({may_be_absent}func(held *heldTable, {places}) C.uint32_t {{", f"\t\treturn C.pidtab_{row.exports}({passed(row)}, {given})"
+        return told(row, [f"{page}", call, "\t})"])
+    reads = f"{'stat' if row.tells == 'task' else lower(row.tells)}Of({may_be_absent}status, {row.tells})"
+    return [f"\t{row.tells} := new(C.struct_pidtab_{row.tells})", *beside(row, row.tells), *told(row, [reads])]
 
 
-def methods(owner):
-    """The methods of a type. Only those of a table say all that there is to say."""
+def told(row, lines):
+    """The lines of what is told, with what was asked where that may be refused."""
+    if row.refusals == "-":
+        return [f"\treturn {lines[0]}", *lines[1:]]
+    return [f"\tfound, err := {lines[0]}", *lines[1:], f"\treturn found, withCall(err, {asked(row)})"]
 
-    def part(tables):
-        lines, (name, receiver, table) = [""], HELD[owner]
-        for row, function in with_function(tables, owner):
-            text = said(tables, row) if not owner else f"{camel(row.question)} is {camel(row.question)} of a Table; it is not recorded."
-            lines += [*comment(text), f"func ({receiver} *{name}) {camel(row.question)}({taken(row)}) ({answer_of(row)}, error) {{", *body(row, function, receiver, table), "}", ""]
-        return lines
 
-    return part
+def methods(tables):
+    """The methods of a table."""
+    lines = [""]
+    for row in tables["questions"]:
+        head = f"func (table *Table) {camel(row.question)}({taken(row)}) ({answer_of(row)}, error) {{"
+        lines += [*comment(said(tables, row)), head, *body(row), "}", ""]
+    return lines
 
 
 def of_hosts(tables):
@@ -121,4 +122,4 @@ def of_hosts(tables):
     return lines
 
 
-PARTS = {(QUESTIONS, "questions of a table"): methods(""), (QUESTIONS, "questions of a shared table"): methods("record_"), (HOSTS, "questions"): of_hosts}
+PARTS = {(QUESTIONS, "questions"): methods, (HOSTS, "questions"): of_hosts}

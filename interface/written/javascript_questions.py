@@ -2,7 +2,6 @@
 
 from names import camel, strings
 from questions import REPLY, all_arguments, arguments_of, by_function, has, sentences, shown
-from tables import words_of
 from written.javascript_calls import NAMES
 
 CALLS = "bindings/js/src/calls.js"
@@ -48,7 +47,7 @@ def method(row):
         for is_long in (False, True)
     ]  # fmt: skip
     asked = " ".join([method_of(row.question), *[f"${{{name_of(it)}}}" for it in shown(row)]])
-    given = ", ".join([f'"{words_of(row.exports)[0]}"', f"[{', '.join(numbers)}]", f"[{', '.join(longs)}]", f"`{asked}`", *([f'"{row.of}"'] if row.of != "-" else [])])
+    given = ", ".join([f'"{row.exports}"', f"[{', '.join(numbers)}]", f"[{', '.join(longs)}]", f"`{asked}`", *([f'"{row.of}"'] if row.of != "-" else [])])
     return [f"  {method_of(row.question)}({taken}) {{", f"    return this.{answer_of(row)[0]}({given});", "  }", ""]
 
 
@@ -58,8 +57,8 @@ def methods(tables):
 
 
 def functions(tables):
-    """The names of the functions that answer them, of a table or of a record."""
-    return [f"const QUESTIONS = [{strings(by_function(tables, ''))}];"]
+    """The names of the functions that answer them."""
+    return [f"const QUESTIONS = [{strings(by_function(tables))}];"]
 
 
 def types(tables):

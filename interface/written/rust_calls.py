@@ -7,6 +7,8 @@ from arguments import arguments_of, queries, refused, said, tells
 from names import camel, capitals, strings
 
 CALLS = "bindings/rust/src/calls.rs"
+SEAT = "bindings/rust/src/seat.rs"
+CONNECTED = "bindings/rust/src/connected.rs"
 NUMBERS = "bindings/rust/src/numbers.rs"
 LIB = "bindings/rust/src/lib.rs"
 TEST = "bindings/rust/src/cases.rs"
@@ -19,12 +21,10 @@ TAKEN = {"byte": "it.{} as u8", "new": "it.{} == 1", "on": "it.{} == 1", "use": 
 # A second field of an argument.
 BESIDES = {"which": "number: which_number({})", "most": "choice: u32::from({}.is_some())"}
 
-# What a method answers, by the replies, and how it reads them.
+# What a method answers, by the replies, and which function of a reply reads it.
 ANSWERS = {
-    "FORKED": ("Child", ["Reply::Forked(child) => Ok(child)"]), "OK": ("()", ["Reply::Done => Ok(())"]), "NUMBER": ("u32", ["Reply::Number(number) => Ok(number)"]),
-    "LEVELS": ("Vec<u32>", ["Reply::Levels(numbers) => Ok(numbers)"]), "CONTROL": ("u64", ["Reply::Control(id) => Ok(id)"]),
-    "REAPED": ("Option<Reaped>", ["Reply::Reaped(reaped) => Ok(Some(reaped))", "Reply::NoneYet => Ok(None)"]),
-    "COUNTED": ("u64", ["Reply::Counted(count) => Ok(count)"]), "NUMBER, END": ("Option<u32>", ["Reply::Number(number) => Ok(Some(number))", "Reply::End => Ok(None)"]),
+    "FORKED": ("Child", "child"), "OK": ("()", "nothing"), "NUMBER": ("u32", "number"), "LEVELS": ("Vec<u32>", "levels"), "CONTROL": ("u64", "control"),
+    "REAPED": ("Option<Reaped>", "reaped"), "COUNTED": ("u64", "counted"), "NUMBER, END": ("Option<u32>", "next_one"),
 }  # fmt: skip
 # The replies that the answers of a method are.
 BACK = {
@@ -38,9 +38,9 @@ def told(row):
     return row.tells if row.tells in ANSWERS else tells(row)[0]
 
 
-def pattern(row):
-    """The value with its fields by their names."""
-    return f"Call::{camel(row.call)} {{ {', '.join(it.name for it in arguments_of(row))} }}"
+def value(row, **fixed):
+    """The value with its fields by their names, of which some are fixed."""
+    return f"Call::{camel(row.call)} {{ {', '.join(f'{it.name}: {fixed[it.name]}' if it.name in fixed else it.name for it in arguments_of(row))} }}"
 
 
 def method(row):
@@ -53,27 +53,62 @@ def comment(text, indent="    "):
     return textwrap.wrap(text, 140, initial_indent=f"{indent}/// ", subsequent_indent=f"{indent}/// ", break_on_hyphens=False)
 
 
+def switch(row):
+    """The name of the argument that makes two methods of a call, one for each of its values; nothing for most calls."""
+    return next((it.name for it in arguments_of(row) if it.kind == "new"), None)
+
+
+def ways(row):
+    """The methods of a call: the name of each, and its value."""
+    found = switch(row)
+    if found is None:
+        return [(method(row), value(row))]
+    return [(method(row), value(row, **{found: "false"})), (f"{method(row)}_new", value(row, **{found: "true"}))]
+
+
 def values(tables):
     """The variants of a call."""
     lines = []
     for row in tables["calls"]:
         fields = ", ".join(f"{it.name}: {TYPES[it.kind]}" for it in arguments_of(row))
-        lines += [f"    /// [`Calls::{method(row)}`]{'; a query' if row.query == 'yes' else ''}.", f"    {camel(row.call)} {{ {fields} }},"]
+        named = ", ".join(f"[`Table::{name}`]" for name, _ in ways(row))
+        lines += [f"    /// {named}{'; a query' if row.query == 'yes' else ''}.", f"    {camel(row.call)} {{ {fields} }},"]
     return lines
 
 
-def methods(tables):
-    """The methods of the calls."""
-    lines = []
+def sentence_of(row, name):
+    """What a method of a table does. Of a call with a switch, each method has its part of the page and of the sentence."""
+    page = re.sub(r"\w+\(\d\)|[A-Z]+_\w+|WNOHANG", lambda it: f"`{it[0]}`", row.page)
+    text = said(row, "`{}`", lambda _: page)
+    if switch(row) is None:
+        return text
+    (old_page, new_page), old = page.split(", or "), text.partition(": ")[2].partition(", or ")[0]
+    return f"{old_page}: {old}." if name == method(row) else f"{new_page}: as [`Table::{method(row)}`], and the child is the init of a new namespace."
+
+
+def of_table(row, name):
+    """The documentation of a method of a table."""
+    errors = f"`Refused` as {refused(row, '`{}`')}{'; `NoMemory`' if row.memory == 'yes' else ''}."
+    return [*comment(sentence_of(row, name)), "    ///", "    /// # Errors", f"    /// {errors}"]
+
+
+def rows(tables, itself):
+    """The methods of the calls, of what is lent so: the call and the name of each, its head, and its code."""
     for row in tables["calls"]:
-        answer, arms = ANSWERS[told(row)]
-        page = re.sub(r"\w+\(\d\)|[A-Z]+_\w+|WNOHANG", lambda it: f"`{it[0]}`", row.page)
-        text = said(row, "`{}`", lambda _: page)
-        taken = ", ".join(f"{it.name}: {TYPES[it.kind]}" for it in arguments_of(row))
-        lines += ["", *comment(text), "    ///", "    /// # Errors", f"    /// `Refused` as {refused(row, '`{}`')}{'; `NoMemory`' if row.memory == 'yes' else ''}."]
-        lines += [f"    fn {method(row)}(&mut self, {taken}) -> Result<{answer}, Error> {{", f"        let call = {pattern(row)};", "        match self.call(call)? {"]
-        lines += [*[f"            {arm}," for arm in arms], "            other => other.refused(Some(call)),", "        }", "    }"]
-    return lines[1:]
+        (answer, reader), fixed = ANSWERS[told(row)], switch(row)
+        taken = ", ".join([itself, *[f"{it.name}: {TYPES[it.kind]}" for it in arguments_of(row) if it.name != fixed]])
+        for name, made in ways(row):
+            yield row, name, f"    pub fn {name}({taken}) -> Result<{answer}, Error> {{", f"self.made({made}, Reply::{reader})"
+
+
+def methods(tables):
+    """The methods of a table, each with what it does."""
+    return [line for row, name, head, code in rows(tables, "&self") for line in ("", *of_table(row, name), head, f"        {code}", "    }")][1:]
+
+
+def forwards(tables):
+    """Those of what makes the same calls, a line each."""
+    return [line for _, name, head, code in rows(tables, "&mut self") for line in (f"    /// As [`Table::{name}`](crate::Table::{name}), with its errors.", f"{head} {code} }}")]
 
 
 def literal(head, fields):
@@ -90,7 +125,7 @@ def numbers(tables):
         found = arguments_of(row)
         put = [f"{it.field}: {PUT.get(it.kind, '{}').format(it.name)}" for it in found] + [BESIDES[it.kind].format(it.name) for it in found if it.kind in BESIDES]
         put = [re.sub(r"^(\w+): \1$", r"\1", it) for it in put]
-        made = literal(f"            {pattern(row)} => raw::Call", [f"operation: raw::{capitals(row.call)}", *put, "..raw::Call::BLANK"])
+        made = literal(f"            {value(row)} => raw::Call", [f"operation: raw::{capitals(row.call)}", *put, "..raw::Call::BLANK"])
         lines += [it.replace("BLANK,", "BLANK") for it in made]
     lines += ["        }", "    }", "", "    /// The call that the numbers of an entry say.", "    pub(crate) fn of(it: &raw::Call) -> Call {", "        match it.operation {"]
     for row in tables["calls"]:
@@ -121,10 +156,10 @@ def by_methods(tables):
     """The call by its method."""
     asked = queries(tables)
     lines = ["#[rustfmt::skip]", f"const QUERIES: [&str; {len(asked)}] = [{strings(asked)}];", ""]
-    lines += ["#[rustfmt::skip]", "fn by_its_method(table: &mut dyn Calls, call: Call) -> Result<Reply, Error> {", "    match call {"]
+    lines += ["#[rustfmt::skip]", "fn by_its_method(table: &Table, call: Call) -> Result<Reply, Error> {", "    match call {"]
     for row in tables["calls"]:
-        passed = ", ".join(it.name for it in arguments_of(row))
-        lines.append(f"        {pattern(row)} => table.{method(row)}({passed}).{BACK[told(row)]},")
+        passed = ", ".join(it.name for it in arguments_of(row) if it.name != switch(row))
+        lines += [f"        {made} => table.{name}({passed}).{BACK[told(row)]}," for name, made in ways(row)]
     return [*lines, "    }", "}"]
 
 
@@ -137,6 +172,8 @@ def all_calls(tables):
 PARTS = {
     (CALLS, "values"): values,
     (CALLS, "methods"): methods,
+    (SEAT, "methods"): forwards,
+    (CONNECTED, "methods"): forwards,
     (NUMBERS, "choices"): choices,
     (NUMBERS, "calls"): numbers,
     (LIB, "calls"): all_calls,

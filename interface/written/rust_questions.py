@@ -1,7 +1,7 @@
-"""The questions as methods of the package for Rust: of a table, of a record and of a shared one."""
+"""The questions as methods of the package for Rust."""
 
 from names import camel
-from questions import REPLY, all_arguments, arguments_of, has, sentences, with_function
+from questions import REPLY, all_arguments, arguments_of, has, sentences
 from tables import words_of
 from written.foreign import broken
 from written.rust_calls import TYPES, comment
@@ -86,30 +86,12 @@ def body(row, name):
     return [f"        let mut {row.tells} = raw::{camel(row.tells)}::BLANK;", f"        {struct_of(row)}::of(self.raw.{name}({taken}), {row.tells})"]
 
 
-def methods(owner):
-    """The methods of a table, or of a record."""
-
-    def part(tables):
-        lines = []
-        for row, _ in with_function(tables, owner):
-            text = said(tables, row) if not owner else [*comment(f"As [`Table::{row.question}`]. It is not recorded."), *errors(row)]
-            lines += ["", *text, *signature(row), *body(row, words_of(row.exports)[0]), "    }"]
-        return lines[1:]
-
-    return part
-
-
-def of_shared(tables):
-    """The methods of a shared table, which wait for their turn as calls do."""
+def methods(tables):
+    """The methods of a table. Each waits for its turn as calls do."""
     lines = []
-    for row, _ in with_function(tables, "shared_"):
-        passed = ", ".join(it.name for it in arguments_of(row))
-        lines += ["", *comment(f"As [`Table::{row.question}`]. It is not recorded."), *errors(row), *signature(row), f"        self.look().{row.question}({passed})", "    }"]
+    for row in tables["questions"]:
+        lines += ["", *said(tables, row), *signature(row), "        let _query = self.for_query();", *body(row, words_of(row.exports)[0]), "    }"]
     return lines[1:]
 
 
-PARTS = {
-    (QUESTIONS, "questions of a table"): methods(""),
-    (QUESTIONS, "questions of a record"): methods("record_"),
-    (QUESTIONS, "questions of a shared table"): of_shared,
-}
+PARTS = {(QUESTIONS, "questions"): methods}

@@ -80,7 +80,7 @@ def python_functions(tables):
 def places(tables):
     """Where the fields of each struct stand, in words of 32 bits. One of 64 bits has two, and stands at an even one."""
     lines = ["// The fields by their places, in words of 32 bits. One of 64 bits, as an id, has two words."]
-    for name in ("call", "reply", "task", "space", "effect", "fault"):
+    for name in ("call", "reply", "task", "space", "effect", "fault", "settings"):
         told, place = [], 0
         for it in tables["headers"].structs[f"pidtab_{name}"]:
             place += place % 2 if it.kind == "uint64_t" else 0

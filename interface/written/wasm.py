@@ -1,13 +1,14 @@
 """The functions that the module for JavaScript exports: the proved ones, whose memory is at fixed places."""
 
 from names import TYPED
-from proved import BY_WORKER, proved_name
+from proved import BY_WORKER
 
 AROUND = "bindings/js/wasm/around.c"
 
-# What is not called from there, and the structs at fixed places.
-BY_HAND = ("version", "close", "calls", "read", "replay")
-PLACES = ("call", "reply", "task", "space", "fault")
+# What is not proved, what is not called from there or by hand, and the structs at fixed places.
+AROUND_IT = ("version", "open", "load", "seat", "lock", "unlock", "follow", "await", "end", *BY_WORKER)
+BY_HAND = ("load_with", "close", "calls", "read", "replay")
+PLACES = ("call", "reply", "task", "space", "fault", "settings")
 LONGS = ("uint64_t", "uint64_t *", "const uint64_t *")
 
 
@@ -19,7 +20,7 @@ def passed(function):
     while rest:
         kind, name, _ = rest.pop(0)
         struct = kind.replace("const ", "").replace("struct pidtab_", "").strip(" *")
-        if name in ("table", "record"):
+        if name == "table":
             given.append("&held")
         elif struct in PLACES:
             given.append(f"&at.{struct}")
@@ -42,39 +43,14 @@ def passed(function):
     return ", ".join(taken) or "void", ", ".join(given)
 
 
-def proved_functions(tables):
-    """Each proved function once, with one of C that calls it. A record's has the worker."""
-    found = {}
-    for it in tables["headers"].of("pidtab.h"):
-        if proved_name(it.name) not in BY_HAND and not it.name.endswith(TYPED) and it.name not in BY_WORKER:
-            found.setdefault(proved_name(it.name), it)
-    return found
-
-
-def declared(tables):
-    """The declarations of the proved functions that have other names in C."""
-    there = {it.name for it in tables["headers"].of("pidtab.h")}
-    return [
-        f"uint32_t pidtab_{name}({', '.join(f'{kind}{name}' for kind, name in spelled(it))});"
-        for name, it in proved_functions(tables).items()
-        if name not in there
-    ]
-
-
-def spelled(function):
-    """The type, with a space where none is before a star, and the name of each argument of a proved function."""
-    for kind, name, _ in function.arguments:
-        of_table = kind.replace("struct pidtab_record *", "struct pidtab *")
-        yield of_table if of_table.endswith("*") else f"{of_table} ", "table" if name == "record" else name
-
-
 def functions(tables):
-    """The functions of a table, with its history and without."""
+    """The proved functions of pidtab.h. That of a worker's call serves where there is one."""
     lines = []
-    for name, it in proved_functions(tables).items():
-        taken, given = passed(it)
-        lines += ["", f"uint32_t EXPORTED({name})({taken})", "{", f"\treturn pidtab_{name}({given});", "}"]
+    for it in tables["headers"].of("pidtab.h"):
+        if it.name not in AROUND_IT + BY_HAND and not it.name.endswith(TYPED):
+            taken, given = passed(it)
+            lines += ["", f"uint32_t EXPORTED({it.name})({taken})", "{", f"\treturn pidtab_{it.name}({given});", "}"]
     return lines[1:]
 
 
-PARTS = {(AROUND, "functions"): functions, (AROUND, "declarations"): declared}
+PARTS = {(AROUND, "functions"): functions}

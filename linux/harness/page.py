@@ -64,10 +64,10 @@ def shown_answers(row: Row) -> str:
 
 def shown_row(row: Row) -> str:
     """The row's line of the page."""
-    script = " / ".join(shown_runs(row.lines()))
+    script = ", ".join(shown_runs(row.lines()))
     if row.pid_max is not None:
         script = f"pid_max {row.pid_max}: {script}"
-    seen = "" if row.seen in USUAL else ". It was not run" if row.seen == "not run" else f". Seen on {row.seen} alone"
+    seen = "" if row.seen in USUAL else ". It was not run" if row.seen == "not run" else f" ({row.seen} alone)"
     reason = f" ({row.run})" if row.run not in RUNS else ""
     return f"| *{row.name}*: {row.what}{seen}{reason} | {script} | {shown_answers(row)} |\n"
 

@@ -227,7 +227,7 @@ impl Book {
     }
 
     /// Before a call: what will not be known behind it.
-    pub fn foresee(&mut self, table: &mut Table, call: Call) {
+    pub fn foresee(&mut self, table: &Table, call: Call) {
         let Call::Exit { caller, .. } = call else { return };
         self.doomed.clear();
         if !self.is_watched || self.tasks.get(&caller).is_none_or(|it| it.is_zombie) {
@@ -245,7 +245,7 @@ impl Book {
     }
 
     /// Behind a call: what has changed.
-    pub fn note(&mut self, table: &mut Table, call: Call, reply: &Reply, stamp: u64) {
+    pub fn note(&mut self, table: &Table, call: Call, reply: &Reply, stamp: u64) {
         match (call, reply) {
             (Call::Fork { caller, new_space }, Reply::Forked(child)) => {
                 self.note_fork(caller, new_space, child, stamp);
@@ -300,7 +300,7 @@ impl Book {
         self.add(child.root, kin, new_space);
     }
 
-    fn tell_fork(&mut self, table: &mut Table, parent: u32, child: u32, ordinal: u64) {
+    fn tell_fork(&mut self, table: &Table, parent: u32, child: u32, ordinal: u64) {
         if !self.is_watched {
             return;
         }
@@ -311,7 +311,7 @@ impl Book {
     }
 
     /// The task ends; its children have another parent; if it is an init, its namespace falls.
-    fn note_exit(&mut self, table: &mut Table, task: u32) {
+    fn note_exit(&mut self, table: &Table, task: u32) {
         let space = self.tasks.get(&task).map_or(0, |it| it.space);
         let fallen = self.falls_with(task);
         self.stirred.push(task);
@@ -359,7 +359,7 @@ impl Book {
     }
 
     /// The task as the table has it now.
-    fn refresh(&mut self, table: &mut Table, task: u32) {
+    fn refresh(&mut self, table: &Table, task: u32) {
         if !self.tasks.contains_key(&task) {
             return;
         }
@@ -449,7 +449,7 @@ impl Book {
 #[cfg(test)]
 mod tests {
     use super::*;
-    use pidtab::{Calls, Which};
+    use pidtab::Which;
     use std::collections::BTreeMap;
 
     /// What two books of one table must agree on.
@@ -499,16 +499,16 @@ mod tests {
     #[test]
     fn the_book_is_that_of_the_list() {
         for seed in 1..40 {
-            let (mut dice, mut table) = (Dice(seed), Table::open(400).expect("a table"));
+            let (mut dice, table) = (Dice(seed), Table::open(400).expect("a table"));
             let mut book = Book::of(&table.listing().expect("a list"));
             for stamp in 1..600 {
                 let listing = table.listing().expect("a list");
                 let tasks: Vec<_> = listing.tasks.iter().map(|it| it.root()).collect();
                 let controls: Vec<_> = listing.controls.iter().map(|it| it.id).collect();
                 let call = random_call(&mut dice, &tasks, &controls);
-                book.foresee(&mut table, call);
+                book.foresee(&table, call);
                 let reply = table.call(call).expect("a reply");
-                book.note(&mut table, call, &reply, stamp);
+                book.note(&table, call, &reply, stamp);
                 let wanted = facts(&Book::of(&table.listing().expect("a list")));
                 assert_eq!(facts(&book), wanted, "seed {seed}, call {stamp}: {call:?} {reply:?}");
                 assert!(tasks.iter().all(|it| book.children(*it).all(|child| child.1.parent == *it)));
@@ -520,7 +520,7 @@ mod tests {
 
     #[test]
     fn events_of_a_fall() {
-        let mut table = Table::open(400).expect("a table");
+        let table = Table::open(400).expect("a table");
         let mut book = Book::of(&table.listing().expect("a list"));
         book.is_watched = true;
         let calls = [
@@ -529,9 +529,9 @@ mod tests {
             Call::Exit { caller: 2, status: 7 },
         ];
         for (place, call) in calls.into_iter().enumerate() {
-            book.foresee(&mut table, call);
+            book.foresee(&table, call);
             let reply = table.call(call).expect("a reply");
-            book.note(&mut table, call, &reply, place as u64 + 1);
+            book.note(&table, call, &reply, place as u64 + 1);
         }
         let wanted = [
             (0, What::Forked { parent: 1, child: 2 }),

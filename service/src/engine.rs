@@ -309,7 +309,7 @@ impl Engine {
         if matches!(call, Call::Mk { .. }) && self.book.controls() >= self.keep.most_controls {
             return Err(Refused::TooManyControls);
         }
-        self.book.foresee(&mut self.table, call);
+        self.book.foresee(&self.table, call);
         Ok(())
     }
 
@@ -324,7 +324,7 @@ impl Engine {
     fn note(&mut self, seat: u32, call: Call, reply: &Reply, lease: Option<u64>) {
         self.made += 1;
         self.counts[seat as usize % SEATS as usize] += 1;
-        self.book.note(&mut self.table, call, reply, self.made);
+        self.book.note(&self.table, call, reply, self.made);
         self.noted.made(call, reply, lease);
         for task in self.book.gone.drain(..) {
             self.noted.leases.gone(task);
@@ -494,7 +494,7 @@ impl Engine {
 
     /// Makes the entry at the front of a leader's blocks again, and records it: how many bytes it has.
     pub fn follow(&mut self, blocks: &mut Blocks, bytes: &[u8]) -> Result<usize, Fault> {
-        let taken = entry::take(&mut self.table, blocks, bytes).map_err(|wrong| wrong.fault.to_string())?;
+        let taken = entry::take(&self.table, blocks, bytes).map_err(|wrong| wrong.fault.to_string())?;
         match taken.entry {
             Entry::Fact(fact) => self.record(&fact),
             Entry::Call { made, lease } => {

@@ -30,7 +30,7 @@ pub struct Wrong {
 }
 
 /// The entry at the front of the bytes, whose call is made again. Where it is torn, or has a wrong byte, all is as it was.
-pub fn take(table: &mut Table, blocks: &mut Blocks, bytes: &[u8]) -> Result<Taken, Wrong> {
+pub fn take(table: &Table, blocks: &mut Blocks, bytes: &[u8]) -> Result<Taken, Wrong> {
     let mut ahead = *blocks;
     let taken = take_ahead(table, &mut ahead, bytes)?;
     *blocks = ahead;
@@ -47,7 +47,7 @@ pub fn next_call(blocks: &Blocks, bytes: &[u8]) -> Option<Call> {
     ahead.next_call(&bytes[front..])
 }
 
-fn take_ahead(table: &mut Table, ahead: &mut Blocks, bytes: &[u8]) -> Result<Taken, Wrong> {
+fn take_ahead(table: &Table, ahead: &mut Blocks, bytes: &[u8]) -> Result<Taken, Wrong> {
     let noted = ahead.take_note(bytes).map_err(|fault| Wrong { fault, place: ahead.wrong() })?;
     let (lease, front) = match noted {
         None => (None, 0),
@@ -57,7 +57,7 @@ fn take_ahead(table: &mut Table, ahead: &mut Blocks, bytes: &[u8]) -> Result<Tak
             return Fact::of(note).map(|it| Taken { entry: Entry::Fact(it), size }).ok_or(unknown);
         }
     };
-    let made = table.replay(ahead, &bytes[front..]);
+    let made = ahead.replay(table, &bytes[front..]);
     let made = made.map_err(|fault| Wrong { fault, place: front + ahead.wrong() })?;
     let size = front + made.size;
     Ok(Taken { entry: Entry::Call { made, lease }, size })
@@ -67,13 +67,13 @@ fn take_ahead(table: &mut Table, ahead: &mut Blocks, bytes: &[u8]) -> Result<Tak
 mod tests {
     use super::*;
     use crate::facts::forks;
-    use pidtab::{Calls, Head};
+    use pidtab::Head;
 
     /// A lease, a fork under it, and its end.
     fn log() -> (Vec<u8>, Blocks) {
         let (head, mut bytes) = (Head { pid_max: 400, workers: 1, first_stamp: 1 }, Vec::new());
         let begun = Blocks::begin(&head, &mut bytes).expect("a head");
-        let (mut blocks, mut table) = (begun, Table::open(400).expect("a table"));
+        let (mut blocks, table) = (begun, Table::open(400).expect("a table"));
         bytes.clear();
         let fact = Fact::Lease { number: 1, user: 7, name: b"rig".to_vec(), ttl: 5 };
         blocks.put_note(&fact.note(), &mut bytes).expect("room");
@@ -87,8 +87,8 @@ mod tests {
 
     /// How many bytes of the front are taken, and how many entries.
     fn read(bytes: &[u8], mut blocks: Blocks) -> (usize, usize) {
-        let (mut table, mut at, mut count) = (Table::open(400).expect("a table"), 0, 0);
-        while let Ok(taken) = take(&mut table, &mut blocks, &bytes[at..]) {
+        let (table, mut at, mut count) = (Table::open(400).expect("a table"), 0, 0);
+        while let Ok(taken) = take(&table, &mut blocks, &bytes[at..]) {
             at += taken.size;
             count += 1;
         }
@@ -114,15 +114,15 @@ mod tests {
     #[test]
     fn the_place_of_a_wrong_byte() {
         let (bytes, begun) = log();
-        let mut table = Table::open(400).expect("a table");
+        let table = Table::open(400).expect("a table");
         for (place, block) in [(5, 0), (48 + 5, 0), (96 + 5, 48)] {
             let (mut other, mut blocks, from) = (bytes.clone(), begun, if place < 48 { 0 } else { 48 });
             other[place] ^= 1;
             if from > 0 {
-                take(&mut table, &mut blocks, &other).expect("a lease");
+                take(&table, &mut blocks, &other).expect("a lease");
             }
             let before = blocks;
-            let wrong = take(&mut table, &mut blocks, &other[from..]).expect_err("a wrong byte");
+            let wrong = take(&table, &mut blocks, &other[from..]).expect_err("a wrong byte");
             assert!(matches!(wrong, Wrong { fault: SavedFault::WrongByte, place } if place == block));
             assert_eq!(blocks, before);
         }

@@ -91,11 +91,11 @@ impl Names {
 #[cfg(test)]
 mod tests {
     use super::*;
-    use pidtab::{Call, Calls, Table};
+    use pidtab::{Call, Table};
 
     /// The cgroups 1 and 2 are below the root's, 3 is below 1, and 4 below 2.
     fn book() -> Book {
-        let mut table = Table::open(400).expect("a table");
+        let table = Table::open(400).expect("a table");
         for parent in [0, 0, 1, 2] {
             table.call(Call::Mk { parent }).expect("a cgroup");
         }

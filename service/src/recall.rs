@@ -48,13 +48,13 @@ impl Watcher {
     }
 
     /// Before the call with the ordinal.
-    pub fn foresee(&mut self, table: &mut Table, call: Call, ordinal: u64) {
+    pub fn foresee(&mut self, table: &Table, call: Call, ordinal: u64) {
         self.book.is_watched = (self.recall.from..self.recall.to).contains(&ordinal);
         self.book.foresee(table, call);
     }
 
     /// Behind it.
-    pub fn note(&mut self, table: &mut Table, entry: &Entry, ordinal: u64) {
+    pub fn note(&mut self, table: &Table, entry: &Entry, ordinal: u64) {
         let Entry::Call { made, .. } = entry else { return };
         self.book.note(table, made.call, &made.reply, ordinal + 1);
         self.book.stirred.clear();

@@ -285,7 +285,7 @@ impl Recovery {
             }
             self.foresee(&input);
             let (blocks, bytes) = (&mut input.blocks, &input.bytes[input.at..]);
-            let taken = entry::take(&mut self.table, blocks, bytes);
+            let taken = entry::take(&self.table, blocks, bytes);
             let is_torn = match &taken {
                 Err(Wrong { fault: SavedFault::Torn, .. }) => true,
                 Err(Wrong { fault: SavedFault::WrongByte, place }) => {
@@ -313,14 +313,14 @@ impl Recovery {
     fn foresee(&mut self, input: &Input) {
         let Some(watcher) = &mut self.watcher else { return };
         if let Some(call) = entry::next_call(&input.blocks, input.rest()) {
-            watcher.foresee(&mut self.table, call, self.place.calls);
+            watcher.foresee(&self.table, call, self.place.calls);
         }
     }
 
     fn count(&mut self, entry: &Entry) {
         self.place.entries += 1;
         if let Some(watcher) = &mut self.watcher {
-            watcher.note(&mut self.table, entry, self.place.calls);
+            watcher.note(&self.table, entry, self.place.calls);
         }
         let (made, lease) = match entry {
             Entry::Fact(fact) => return self.noted.apply(fact),

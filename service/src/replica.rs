@@ -149,7 +149,7 @@ impl Loose {
     fn replay(&mut self, bytes: &[u8]) -> Result<(), Fault> {
         let mut at = 0;
         while at < bytes.len() {
-            let taken = entry::take(&mut self.table, &mut self.blocks, &bytes[at..]);
+            let taken = entry::take(&self.table, &mut self.blocks, &bytes[at..]);
             let taken = taken.map_err(|wrong| wrong.fault.to_string())?;
             at += taken.size;
             self.count(&taken.entry);

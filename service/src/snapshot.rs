@@ -103,15 +103,14 @@ fn settings_of(text: &[u8]) -> Option<(u32, u64)> {
 #[cfg(test)]
 mod tests {
     use super::*;
-    use pidtab::Calls;
 
     /// Two tasks, of which one is leased.
     fn text() -> (Vec<u8>, usize) {
-        let mut table = Table::open(400).expect("a table");
+        let table = Table::open(400).expect("a table");
         let (mut noted, key) = (Noted::default(), (1000, b"rig".to_vec()));
         noted.apply(&noted.leases.hold_of(&key, 5000));
         for lease in [Some(1), None] {
-            let child = table.fork(1, false).expect("a child");
+            let child = table.fork(1).expect("a child");
             noted.leases.forked(child.root, lease);
         }
         let id = table.mk(0).expect("a cgroup");

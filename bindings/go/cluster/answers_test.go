@@ -192,7 +192,7 @@ func tell(it queries) (told []any) {
 
 // Each query of a host answers what a table does on which the same calls were made. None is a call.
 func TestQueries(t *testing.T) {
-	table, err := pidtab.Open(DefaultPidMax)
+	table, err := pidtab.Open(pidtab.Settings{})
 	check(t, err)
 	defer table.Close()
 	replicated := host(t, new(MemoryLog))

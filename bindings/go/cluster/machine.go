@@ -33,7 +33,7 @@ type machine struct {
 
 // openMachine makes one of a log that has not begun.
 func openMachine(pidMax uint32) (*machine, error) {
-	table, err := pidtab.Open(pidMax)
+	table, err := pidtab.Open(pidtab.Settings{PidMax: pidMax})
 	if err != nil {
 		return nil, err
 	}
@@ -72,7 +72,7 @@ func (it *machine) load(position uint64, snapshot string) error {
 	if err != nil {
 		return snapshotFault(err, position)
 	}
-	table, err := pidtab.FromDump(snapshot[used:])
+	table, err := pidtab.FromDump(snapshot[used:], pidtab.Settings{})
 	if err != nil {
 		return snapshotFault(err, position)
 	}

@@ -45,7 +45,7 @@ func Compare(data []byte, yours Peer, names ...string) error {
 	if len(chosen) == 0 {
 		return ErrNoCalls
 	}
-	table, err := pidtab.Open(pidMax)
+	table, err := pidtab.Open(pidtab.Settings{PidMax: pidMax})
 	if err != nil {
 		return err
 	}

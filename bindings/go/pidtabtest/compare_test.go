@@ -77,7 +77,7 @@ func TestABugIsFound(t *testing.T) {
 		t.Fatal(err)
 	}
 	// The script shows it again.
-	table, err := pidtab.Open(pidMax)
+	table, err := pidtab.Open(pidtab.Settings{PidMax: pidMax})
 	if err != nil {
 		t.Fatal(err)
 	}
@@ -138,7 +138,7 @@ func TestPidtabItselfDoesNotDiffer(t *testing.T) {
 	for i := 0; i < 200; i++ {
 		data := make([]byte, 4*40+i%4)
 		dice.Read(data)
-		table, err := pidtab.Open(pidMax)
+		table, err := pidtab.Open(pidtab.Settings{PidMax: pidMax})
 		if err != nil {
 			t.Fatal(err)
 		}

@@ -1,6 +1,7 @@
 // What a table is made with and asked: a TypeError for what is no number and for options that are none, and a RangeError for a number that is out of range.
 
-const GREATEST_ID = 2n ** 64n - 1n;
+/** The greatest number of 64 bits. */
+export const GREATEST_LONG = 2n ** 64n - 1n;
 
 /** What is thrown for a number that is none of those from the least to the greatest. */
 function faultOfNumber(name, number, least, greatest) {
@@ -37,6 +38,6 @@ export function checkOptions(options, ...known) {
 /** The number of 64 bits that a BigInt is, or a number that is a safe integer. */
 export function checkLong(name, number, least = 0n) {
   const long = Number.isSafeInteger(number) ? BigInt(number) : number;
-  if (typeof long === "bigint" && least <= long && long <= GREATEST_ID) return long;
+  if (typeof long === "bigint" && least <= long && long <= GREATEST_LONG) return long;
   throw faultOfNumber(name, number, least, `2^64 - 1, or at most 2^53 - 1 where it is no BigInt`);
 }

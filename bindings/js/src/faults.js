@@ -42,7 +42,10 @@ export class TableClosed extends PidtabError {}
 /** The history has no such entry: it was cut away, or there is no such call yet. */
 export class NotKept extends PidtabError {}
 
-/** Each worker of a record has its seat already. */
+/** The table keeps no history. */
+export class NoHistory extends PidtabError {}
+
+/** Each worker has its seat already. */
 export class SeatsTaken extends PidtabError {}
 
 /** A text that is that of no table. `why` says what is wrong with the line, which counts from 1. */

@@ -15,7 +15,7 @@ export const GREATEST_PID_MAX = 4194304;
 // Written by tools/interface: statuses.
 export const STATUS = {
   DONE: 0, CLOSED: 9, NO_MEMORY: 12, BUSY: 16, OUT_OF_RANGE: 22, NO_ROOM: 34, EMPTY_LINE: 61, BAD_LINE: 71, SPENT: 75, DIFFERS: 74,
-  BAD_TEXT: 117, NOT_KEPT: 2, AGAIN: 11, NO_HISTORY: 95,
+  BAD_TEXT: 117, NOT_KEPT: 2, AGAIN: 11, NO_HISTORY: 95, NO_THREADS: 37,
 };
 // The end of statuses.
 
@@ -77,4 +77,5 @@ export const TASK = { error: 0, refusal: 1, count: 2, parent: 3, group: 4, sessi
 export const SPACE = { id: 0, parent: 2, level: 4, init: 5, fallen: 6 };
 export const EFFECT = { what: 0, number: 1, value: 2 };
 export const FAULT = { line: 0, kind: 2 };
+export const SETTINGS = { pid_max: 0, workers: 1, first_stamp: 2, keep: 4, threads: 6 };
 // The end of places.

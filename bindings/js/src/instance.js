@@ -1,12 +1,12 @@
-// An instance of the module, which holds one table, with its history or without: wasm/around.c says what its functions take, and where.
+// An instance of the module, which holds one table: wasm/around.c says what its functions take, and where.
 
 import { faultOf, NoMemory, TableClosed } from "./faults.js";
-import { CALL, STATUS } from "./header.js";
+import { CALL, SETTINGS, STATUS } from "./header.js";
 
-const PLACES = ["call", "reply", "task", "space", "fault", "numbers", "size", "line", "answer"];
+const PLACES = ["call", "reply", "task", "space", "fault", "settings", "numbers", "size", "line", "answer"];
 const LINE_ROOM = 208;
 
-// What answers questions, of a table or of a record.
+// What answers questions.
 // Written by tools/interface: questions.
 const QUESTIONS = ["ask", "stat", "page", "space", "inside", "control_tasks", "would"];
 // The end of questions.
@@ -40,7 +40,7 @@ export class Instance {
     this.exports = { ...new WebAssembly.Instance(compiled, {}).exports };
     this.memory = this.exports.memory;
     this.at = placesOf(this.exports);
-    for (const name of ["load", "list", "dump", ...QUESTIONS]) this[name] = this.exports[name];
+    for (const name of ["list", "dump", ...QUESTIONS]) this[name] = this.exports[name];
     this.look();
   }
 
@@ -79,7 +79,17 @@ export class Instance {
     this.longs[this.at.call.long + CALL.id / 2] = id;
   }
 
-  /** The numbers that a function of a record takes beside. */
+  /** With what the table is opened. */
+  writeSettings({ pidMax, workers, firstStamp, kept }) {
+    this.refresh();
+    const { word, long } = this.at.settings;
+    this.words[word + SETTINGS.pid_max] = pidMax;
+    this.words[word + SETTINGS.workers] = workers;
+    this.longs[long + SETTINGS.first_stamp / 2] = firstStamp;
+    this.longs[long + SETTINGS.keep / 2] = kept;
+  }
+
+  /** The numbers of 64 bits that a function takes beside. */
   writeNumbers(numbers) {
     this.refresh();
     this.longs.set(numbers, this.at.numbers.long);

@@ -7,7 +7,7 @@ import { test } from "node:test";
 
 import { pidtab, skip } from "./package.js";
 
-const { BadText, Lines, PidtabError, Record, Refusal, Table, readListing, toJson } = pidtab;
+const { BadText, Lines, PidtabError, Refusal, Table, readListing, toJson } = pidtab;
 const FOLDER = new URL("../../../interface/cases/", import.meta.url);
 // Written by tools/interface: queries.
 const QUERIES = ["getpid", "nspid", "getppid", "count", "getpgid", "getsid", "next"];
@@ -96,23 +96,23 @@ const short = (number) => (number <= 0xffffffffn ? Number(number) : number);
 /** What a case has open. */
 class World {
   tables = [];
-  record = null;
+  kept = null;
 
-  begin(record, tables) {
-    Object.assign(this, { record, tables, at: 0 });
-    this.seats = Array.from({ length: record.workers }, () => record.seat());
-    assert.throws(() => record.seat(), { name: "SeatsTaken" });
+  begin(kept, tables) {
+    Object.assign(this, { kept, tables, at: 0 });
+    this.seats = Array.from({ length: kept.workers }, () => kept.seat());
+    assert.throws(() => kept.seat(), { name: "SeatsTaken" });
   }
 
-  open([pidMax, workers, firstStamp]) {
-    const isAlone = workers === 1n && firstStamp === 1n;
+  open([pidMax, workers, firstStamp, keep]) {
+    const isAlone = workers === 1n && firstStamp === 1n && keep === 0n;
     const tables = () => (isAlone ? [0, 1, 2].map(() => new Table({ pidMax: Number(pidMax) })) : []);
-    const record = told(() => new Record({ pidMax: Number(pidMax), workers: Number(workers), firstStamp }));
-    if (typeof record === "string") {
-      if (isAlone) assert.equal(told(tables), record);
-      return record;
+    const kept = told(() => new Table({ pidMax: Number(pidMax), workers: Number(workers), firstStamp, keep: keep || Infinity }));
+    if (typeof kept === "string") {
+      if (isAlone) assert.equal(told(tables), kept);
+      return kept;
     }
-    this.begin(record, tables());
+    this.begin(kept, tables());
     this.isWhole = firstStamp === 1n;
     return "";
   }
@@ -120,22 +120,22 @@ class World {
   load(text, counts) {
     const isAlone = counts.length === 1 && counts[0] === 0n;
     const tables = () => (isAlone ? [0, 1, 2].map(() => Table.load(text)) : []);
-    const record = told(() => Record.load(text, { recorded: counts }));
-    if (typeof record === "string") {
-      if (isAlone) assert.equal(told(tables), record);
-      return record;
+    const kept = told(() => Table.load(text, { keep: Infinity, recorded: counts }));
+    if (typeof kept === "string") {
+      if (isAlone) assert.equal(told(tables), kept);
+      return kept;
     }
-    this.begin(record, tables());
+    this.begin(kept, tables());
     this.isWhole = false;
     return "";
   }
 
   reload() {
-    const text = this.record.dump();
+    const text = this.kept.dump();
     const { at, tables } = this;
     for (const table of tables) assert.equal(table.dump(), text);
-    assert.equal(this.load(text, this.seats.map(({ worker }) => this.record.worker(worker))), "");
-    assert.equal(this.record.dump(), text);
+    assert.equal(this.load(text, this.seats.map(({ worker }) => this.kept.worker(worker))), "");
+    assert.equal(this.kept.dump(), text);
     Object.assign(this, { at, tables: tables.map(() => Table.load(text)) });
   }
 
@@ -145,9 +145,9 @@ class World {
     const answer = told(() => seat.line(line));
     if (byLine) assert.equal(told(() => byLine.line(line)), answer);
     if (/^[A-Z_]+$/.test(answer)) return answer;
-    assert.deepEqual(this.record.entry(seat.ordinal), { ordinal: seat.ordinal, worker: this.at, line, answer });
+    assert.deepEqual(this.kept.entry(seat.ordinal), { ordinal: seat.ordinal, worker: this.at, line, answer });
     const [name] = line.split(" ");
-    const asked = [this.record.ask, seat.ask, ...(byMethod ? [byMethod.ask] : [])];
+    const asked = [this.kept.ask, seat.ask, ...(byMethod ? [byMethod.ask] : [])];
     for (const queries of asked) QUERIES.includes(name) ? assert.equal(say(byItsMethod(queries, line), name), answer) : assert.equal(queries[name], undefined);
     if (byMethod) assert.equal(say(byItsMethod(byMethod.would, line), name), answer, line);
     if (byMethod) assert.equal(say((this.told = byItsMethod(byMethod, line)), name), answer, line);
@@ -160,46 +160,46 @@ class World {
     const seat = this.seats[this.at];
     const [found, ...others] = [seat, ...this.tables].map((it) => sayTold(it, line));
     for (const other of others) assert.equal(other, found);
-    assert.deepEqual(this.record.entry(seat.ordinal), { ordinal: seat.ordinal, worker: this.at, line, answer: found.split(", ")[0] });
+    assert.deepEqual(this.kept.entry(seat.ordinal), { ordinal: seat.ordinal, worker: this.at, line, answer: found.split(", ")[0] });
     return found;
   }
 
   /** What a question tells, which is the same of each table. */
   question(name, numbers) {
-    const [found, ...others] = [this.record, ...this.tables].map(({ ask }) => told(() => sayAnswer(ask[name](...numbers))));
+    const [found, ...others] = [this.kept, ...this.tables].map(({ ask }) => told(() => sayAnswer(ask[name](...numbers))));
     for (const other of others) assert.equal(other, found);
     return found;
   }
 
-  /** The history on a second record: the same replies, counts and list; or it stops at an entry with another answer, or of a worker that is none. */
+  /** The history on a second table: the same replies, counts and list; or it stops at an entry with another answer, or of a worker that is none. */
   replay(change, place) {
-    const entries = [...this.record.entries()];
-    const { pidMax, workers } = this.record;
-    const again = new Record({ pidMax, workers });
+    const entries = [...this.kept.entries()];
+    const { pidMax, workers } = this.kept;
+    const again = new Table({ pidMax, workers, keep: Infinity });
     if (change === "differs") entries[place].answer += "7";
     if (change === "stranger") entries[place].worker = workers;
     const stopped = told(() => String(again.replay(entries)));
     assert.equal(stopped, { differs: "DIFFERS", stranger: "OUT_OF_RANGE" }[change] ?? String(entries.length));
     const recorded = { differs: place + 1, stranger: place }[change] ?? entries.length;
     assert.equal(again.counts().recorded, BigInt(recorded));
-    if (!change) assert.equal(again.listText(), this.record.listText());
+    if (!change) assert.equal(again.listText(), this.kept.listText());
   }
 
   end() {
-    if (this.isWhole && this.record.counts().firstKept === 0n) this.replay();
+    if (this.isWhole && this.kept.counts().firstKept === 0n) this.replay();
     this.isWhole = false;
   }
 
   /** What a step of a history tells. */
   read(word, [first, most]) {
-    const { record } = this;
+    const { kept } = this;
     const steps = {
-      counts: () => Object.values(record.counts()).join(" "),
-      worker: () => String(record.worker(Number(first))),
-      entry: () => (({ worker, line, answer }) => `${worker} ${line}: ${answer}`)(record.entry(first)),
-      read: () => String(Math.min([...record.entries(first)].length, Number(most))),
-      checkpoint: () => record.checkpoint() ?? "DONE",
-      checkpoint_at: () => (record.checkpointAt(first) ? "DONE" : "AGAIN"),
+      counts: () => Object.values(kept.counts()).join(" "),
+      worker: () => String(kept.worker(Number(first))),
+      entry: () => (({ worker, line, answer }) => `${worker} ${line}: ${answer}`)(kept.entry(first)),
+      read: () => String(Math.min([...kept.entries(first)].length, Number(most))),
+      checkpoint: () => kept.checkpoint() ?? "DONE",
+      checkpoint_at: () => (kept.checkpointAt(first) ? "DONE" : "AGAIN"),
     };
     return told(steps[word]);
   }
@@ -214,7 +214,7 @@ class World {
     if (["counts", "worker", "entry", "read", "checkpoint", "checkpoint_at"].includes(word)) return this.read(word, numbers);
     if (word === "told") return this.callTold(words.join(" "));
     const question = word.replace(/_(.)/g, (_, letter) => letter.toUpperCase());
-    if (!QUERIES.includes(word) && typeof this.record?.ask[question] === "function") return this.question(question, numbers.map(short));
+    if (!QUERIES.includes(word) && typeof this.kept?.ask[question] === "function") return this.question(question, numbers.map(short));
     if (word === "json") return this.call(words.join(" ")) && toJson(this.told);
     if (word === "parse") return lineOfFault(text);
     const steps = {
@@ -224,8 +224,8 @@ class World {
       each: () => {
         for (let number = numbers[0]; number <= numbers[1]; number++) assert.doesNotMatch(this.call(words.slice(2).join(" ").replaceAll("#", number)), /^[A-Z]/);
       },
-      list: () => [this.record, ...this.tables].forEach((it) => assert.equal(it.listText(), text)),
-      dump: () => [this.record, ...this.tables].forEach((it) => assert.equal(it.dump(), text)),
+      list: () => [this.kept, ...this.tables].forEach((it) => assert.equal(it.listText(), text)),
+      dump: () => [this.kept, ...this.tables].forEach((it) => assert.equal(it.dump(), text)),
       differs: () => this.replay(word, Number(numbers[0])),
       stranger: () => this.replay(word, Number(numbers[0])),
       damage: () => damage(text),
@@ -256,9 +256,6 @@ function lineOfFault(text) {
 /** This package has no list of an opening, and no call as numbers. */
 const isLeftOut = (step) => step.startsWith("opening") || (step.startsWith("numbers") && step.endsWith("OUT_OF_RANGE"));
 
-/** It has no bound of a history. */
-const isOfOthers = (step) => /^open \d+ \d+ \d+ [1-9]/.test(step) && !step.includes(" -> ");
-
 for (const name of readdirSync(FOLDER).filter((it) => it.endsWith(".cases"))) {
   test(`the cases of ${name}`, { skip }, () => {
     const cases = readFileSync(new URL(name, FOLDER), "utf8").replaceAll("\n\t", "\u0001").split(/\n(?=case )/).slice(1);
@@ -268,7 +265,6 @@ for (const name of readdirSync(FOLDER).filter((it) => it.endsWith(".cases"))) {
         const [said, ...below] = line.split("\u0001");
         const [step, wanted = ""] = said.split(" -> ");
         const text = below.map((it) => `${it}\n`).join("").replaceAll("\\r", "\r");
-        if (isOfOthers(said)) break;
         const made = step.startsWith("numbers") ? byItsMethod(new Lines(), wanted) : world.make(step.replaceAll("\\r", "\r").replaceAll("\\0", "\0"), text);
         assert.equal(made, wanted, line);
       }

@@ -79,12 +79,14 @@ test("a label goes when the number is another task's", { skip }, () => {
   checkForks(table, table, [() => table.fork(1), () => table.line("fork 1"), () => table.answers(["fork 1"]), () => table.told.fork(1)]);
 });
 
-test("a label of a record goes by any of its seats", { skip }, () => {
-  const record = new pidtab.Record({ pidMax: 301, workers: 2 });
-  const [first, second] = [record.seat(), record.seat()];
+test("a label goes by any of the seats", { skip }, () => {
+  const table = new pidtab.Table({ pidMax: 301, keep: Infinity, workers: 2 });
+  const [first, second] = [table.seat(), table.seat()];
   goUp(first);
-  const last = record.entry(record.counts().recorded - 1n);
-  checkForks(record, first, [() => second.fork(1), () => second.line("fork 1"), () => second.told.fork(1), () => record.replay([last])]);
+  const last = table.entry(table.counts().recorded - 1n);
+  checkForks(table, first, [() => second.fork(1), () => second.line("fork 1"), () => second.told.fork(1), () => table.replay([last])]);
+  table.label(1, "init");
+  assert.equal(second.list().tasks[0].label, "init");
 });
 
 test("what is no label, and who is nobody", { skip }, () => {

@@ -5,12 +5,12 @@ import { test } from "node:test";
 
 import { Telling, Would } from "../src/calls.js";
 import { STATUS, WHICH } from "../src/header.js";
-import { Record } from "../src/record.js";
 import { Table } from "../src/table.js";
 
 const FORK = "an option is one of newSpace, not ";
 const WAIT = "an option is one of pid, own, group, not ";
-const OPEN = "an option is one of pidMax, not ";
+const OPEN = "an option is one of pidMax, keep, workers, firstStamp, not ";
+const LOAD = "an option is one of keep, workers, recorded, not ";
 const NO_OBJECTS = { "a boolean": true, "a number": 2, "a string": "new", "a bigint": 2n, "a function": () => {}, null: null };
 
 /** A table without a module, and the numbers and choices that its calls were written with: none is made. */
@@ -31,7 +31,7 @@ function optional(table) {
   return {
     forks: [table, would, told].map((it) => (options) => it.fork(1, options)).concat((options) => table.forkAt(1, { child: 2, root: 2 }, options)),
     waits: [table, would, told].map((it) => (options) => it.wait(1, options)),
-    opens: [(options) => new Table(options), (options) => new Record(options), (options) => Record.load("", options)],
+    opens: [(options) => new Table(options), (options) => Table.load("", options)],
   };
 }
 
@@ -52,10 +52,8 @@ test("options that are not known", () => {
     assert.throws(() => call({ any: true }), { name: "TypeError", message: `${WAIT}any` });
     assert.throws(() => call({ pid: 2, Group: 3 }), { name: "TypeError", message: `${WAIT}Group` });
   }
-  assert.throws(() => opens[0]({ pidmax: 400 }), { name: "TypeError", message: `${OPEN}pidmax` });
-  assert.throws(() => opens[0]({ pidMax: 400, workers: 2 }), { name: "TypeError", message: `${OPEN}workers` });
-  assert.throws(() => opens[1]({ pidmax: 400 }), { message: "an option is one of workers, pidMax, firstStamp, not pidmax" });
-  assert.throws(() => opens[2]({ pidMax: 400 }), { message: "an option is one of workers, recorded, not pidMax" });
+  for (const [name, value] of Object.entries({ pidmax: 400, threads: true, keeps: 9 })) assert.throws(() => opens[0]({ [name]: value }), { name: "TypeError", message: `${OPEN}${name}` });
+  for (const name of ["pidMax", "firstStamp", "threads"]) assert.throws(() => opens[1]({ [name]: 400 }), { name: "TypeError", message: `${LOAD}${name}` });
   assert.deepEqual(asked, []);
 });
 

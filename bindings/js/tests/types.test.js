@@ -23,10 +23,10 @@ test("the types name what the package exports", { skip: pidtab.skip }, () => {
 });
 
 test("the types name the methods that there are", { skip: pidtab.skip }, () => {
-  const { Record, Table } = pidtab.pidtab;
+  const { Table } = pidtab.pidtab;
   const methods = (kind) => kind && kind !== Object.prototype ? [...Object.getOwnPropertyNames(kind), ...methods(Object.getPrototypeOf(kind))] : [];
   const typed = new Set([...read("bindings/js/pidtab.d.ts").matchAll(/^  (?:static )?(\w+)\(/gm)].map(([, name]) => name));
-  const found = [Table.prototype, Record.prototype, new Table().ask, Record.load(new Table().dump()).seat()].flatMap(methods);
+  const found = [Table.prototype, new Table().ask, Table.load(new Table().dump()).seat()].flatMap(methods);
   const named = found.filter((name) => !name.startsWith("_"));
   for (const name of named.filter((it) => typeof Table.prototype[it] === "function")) assert.ok(typed.has(name), name);
 });

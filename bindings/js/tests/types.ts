@@ -1,6 +1,6 @@
 // What a user of the types writes, and what the compiler has to refuse. Nothing here is run.
 
-import { BadText, Effect, Entry, Forked, Lines, Listing, Queries, Reaped, Record, Refusal, SpaceStat, Stat, Table, Told, toJson } from "../pidtab.js";
+import { BadText, Effect, Entry, Forked, Lines, Listing, Queries, Reaped, Refusal, SpaceStat, Stat, Table, Told, toJson } from "../pidtab.js";
 
 const table = new Table({ pidMax: 400 });
 const child: Forked = table.fork(1, { newSpace: true });
@@ -36,13 +36,13 @@ function count(queries: Queries): number {
 count(table);
 count(table.ask);
 
-const record = new Record({ workers: 2, firstStamp: 5 });
-const seat = record.seat();
+const kept = new Table({ keep: Infinity, workers: 2, firstStamp: 5 });
+const seat = kept.seat();
 count(seat);
 const ordinal: bigint | null = seat.ordinal;
-for (const entry of record.entries()) {
+for (const entry of kept.entries()) {
   const same: Entry = entry;
-  record.replay([same]);
+  Table.load(table.dump(), { keep: 4096n, recorded: [0, 0n] }).replay([same]);
 }
 
 try {
@@ -52,7 +52,7 @@ try {
   if (fault instanceof BadText) console.log(fault.line, fault.why);
 }
 
-console.log(line, said, waited?.status, record.seat().told.exit(2).effects, reaped?.status, numbers, listing, stat, ordinal, label, json);
+console.log(line, said, waited?.status, kept.seat().told.exit(2).effects, reaped?.status, numbers, listing, stat, ordinal, label, json);
 
 // @ts-expect-error: a number of a process is no text
 table.getpid("1");
@@ -62,8 +62,12 @@ table.next(1, "thread");
 table.ask.fork(1);
 // @ts-expect-error: a status may be null
 const status: number = table.wait(1)!.status;
-// @ts-expect-error: a record has no calls, its seats have
-record.fork(1);
+// @ts-expect-error: so many entries is a number
+new Table({ keep: "4096" });
+// @ts-expect-error: a table is of one thread
+new Table({ threads: true });
+// @ts-expect-error: a text has its bound
+Table.load("", { pidMax: 400 });
 // @ts-expect-error: what is told takes what the call takes
 table.told.exit("2");
 // @ts-expect-error: it is no line

@@ -1,4 +1,4 @@
-/* One table, with its history or without, for callers in another memory. Each number that passes has 32 bits: one of 64 would be a BigInt in JavaScript, and each call
+/* One table, for callers in another memory. Each number that passes has 32 bits: one of 64 would be a BigInt in JavaScript, and each call
  * would make some.
  *
  * What is longer stands at fixed places of the memory, which `place_of` tells. The functions are the proved ones, without the guard of
@@ -15,23 +15,10 @@ void heap_free(void *at);
 /* A function that the build exports. By an attribute, the compiler would ask for a table of functions, which wasm-opt cannot lower. */
 #define EXPORTED(name) name
 
-/* The proved functions whose names pidtab.h has not. */
-/* Written by tools/interface: declarations. */
-uint32_t pidtab_open_with(struct pidtab *table, uint32_t pid_max, uint64_t first_stamp, uint32_t workers);
-uint32_t pidtab_call_by(struct pidtab *table, uint32_t worker, const struct pidtab_call *call, struct pidtab_reply *reply, uint64_t *ordinal);
+/* A proved function that takes something else than that of pidtab.h with its name, and one that pidtab.h has not. */
+uint32_t proved_load_with(struct pidtab *table, const void *text, size_t length, const uint64_t *counts, size_t workers, bool keeps_history, struct pidtab_fault *fault)
+	__asm__("pidtab_load_with");
 uint32_t pidtab_call_keeping(struct pidtab *table, uint32_t worker, const struct pidtab_call *call, uint64_t keep, struct pidtab_reply *reply, uint64_t *ordinal);
-uint32_t pidtab_line_by(struct pidtab *table, uint32_t worker, const void *line, size_t length, void *answer, size_t room, size_t *size, uint64_t *ordinal);
-uint32_t pidtab_fork_at_by(struct pidtab *table, uint32_t worker, uint32_t caller, uint32_t new_space, uint32_t child, uint32_t root, struct pidtab_reply *reply, uint64_t *ordinal);
-uint32_t pidtab_call_told_by(struct pidtab *table, uint32_t worker, const struct pidtab_call *call, struct pidtab_reply *reply, uint64_t *ordinal, struct pidtab_effect *effects, size_t room, uint64_t *count);
-uint32_t pidtab_counts(const struct pidtab *table, uint64_t *first_kept, uint64_t *recorded);
-uint32_t pidtab_worker(const struct pidtab *table, uint32_t worker, uint64_t *calls);
-uint32_t pidtab_entry(const struct pidtab *table, uint64_t ordinal, uint64_t *worker, struct pidtab_call *call, struct pidtab_reply *reply);
-uint32_t pidtab_keep(struct pidtab *table, uint64_t keep);
-uint32_t pidtab_checkpoint(struct pidtab *table);
-uint32_t pidtab_checkpoint_at(struct pidtab *table, uint64_t seen);
-uint32_t pidtab_opening(const struct pidtab *table, void *bytes, size_t room, size_t *size);
-uint32_t pidtab_load_with(struct pidtab *table, const void *text, size_t length, const uint64_t *counts, size_t workers, struct pidtab_fault *fault);
-/* The end of declarations. */
 
 static struct pidtab held;
 
@@ -41,6 +28,7 @@ static struct {
 	struct pidtab_task task;
 	struct pidtab_space space;
 	struct pidtab_fault fault;
+	struct pidtab_settings settings;
 	uint64_t numbers[PIDTAB_MOST_WORKERS];
 	size_t size;
 	char line[LINE_ROOM], answer[ANSWER_ROOM];
@@ -54,7 +42,7 @@ static void *pointer(uint32_t address)
 /* The places in the order in which instance.js names them. */
 uint32_t EXPORTED(place_of)(uint32_t what)
 {
-	void *const places[] = { &at.call, &at.reply, &at.task, &at.space, &at.fault, at.numbers, &at.size, at.line, at.answer };
+	void *const places[] = { &at.call, &at.reply, &at.task, &at.space, &at.fault, &at.settings, at.numbers, &at.size, at.line, at.answer };
 	return (uint32_t)(size_t)places[what];
 }
 
@@ -72,10 +60,20 @@ void EXPORTED(give)(uint32_t address)
 /* Each number of 64 bits that a function takes or tells is one of the numbers, in their order, and an ordinal the first: where one is given, the
  * worker of its entry stands in its place. A room for the answer that is short is refused. */
 
-/* Written by tools/interface: functions. */
-uint32_t EXPORTED(open)(uint32_t pid_max)
+uint32_t EXPORTED(load_with)(uint32_t text, uint32_t length, uint32_t workers, uint32_t keeps_history)
 {
-	return pidtab_open(&held, pid_max);
+	return proved_load_with(&held, pointer(text), length, at.numbers, workers, keeps_history, &at.fault);
+}
+
+uint32_t EXPORTED(call_keeping)(uint32_t worker)
+{
+	return pidtab_call_keeping(&held, worker, &at.call, at.numbers[1], &at.reply, &at.numbers[0]);
+}
+
+/* Written by tools/interface: functions. */
+uint32_t EXPORTED(open_with)(void)
+{
+	return pidtab_open_with(&held, &at.settings);
 }
 
 uint32_t EXPORTED(list)(uint32_t bytes, uint32_t room)
@@ -88,9 +86,9 @@ uint32_t EXPORTED(dump)(uint32_t bytes, uint32_t room)
 	return pidtab_dump(&held, pointer(bytes), room, &at.size);
 }
 
-uint32_t EXPORTED(load)(uint32_t text, uint32_t length)
+uint32_t EXPORTED(call)(void)
 {
-	return pidtab_load(&held, pointer(text), length, &at.fault);
+	return pidtab_call(&held, &at.call, &at.reply);
 }
 
 uint32_t EXPORTED(ask)(void)
@@ -138,19 +136,9 @@ uint32_t EXPORTED(reply_line)(uint32_t room)
 	return pidtab_reply_line(&at.reply, at.answer, room < ANSWER_ROOM ? room : ANSWER_ROOM, &at.size);
 }
 
-uint32_t EXPORTED(open_with)(uint32_t pid_max, uint32_t workers)
-{
-	return pidtab_open_with(&held, pid_max, at.numbers[0], workers);
-}
-
 uint32_t EXPORTED(call_by)(uint32_t worker)
 {
 	return pidtab_call_by(&held, worker, &at.call, &at.reply, &at.numbers[0]);
-}
-
-uint32_t EXPORTED(call_keeping)(uint32_t worker)
-{
-	return pidtab_call_keeping(&held, worker, &at.call, at.numbers[1], &at.reply, &at.numbers[0]);
 }
 
 uint32_t EXPORTED(line_by)(uint32_t worker, uint32_t length, uint32_t room)
@@ -201,10 +189,5 @@ uint32_t EXPORTED(checkpoint_at)(void)
 uint32_t EXPORTED(opening)(uint32_t bytes, uint32_t room)
 {
 	return pidtab_opening(&held, pointer(bytes), room, &at.size);
-}
-
-uint32_t EXPORTED(load_with)(uint32_t text, uint32_t length, uint32_t workers)
-{
-	return pidtab_load_with(&held, pointer(text), length, at.numbers, workers, &at.fault);
 }
 /* The end of functions. */

@@ -27,21 +27,17 @@ class NumberCalls(Labelled, AskableCalls):
     # How many entries the history keeps; 0 where there is none.
     keep: int = 0
 
+    # The functions that make a call, and that answer a line.
+    _call: Callable[[bytes, PidtabReply], int]
+    _line: Callable[..., int]
+
     @abstractmethod
     def _question(self, name: str) -> Callable[..., int]:
         """The function of the library with this name on the table."""
 
     @abstractmethod
-    def _call(self, call: bytes, reply: PidtabReply) -> int:
-        """The status of the function that makes a call."""
-
-    @abstractmethod
     def _made(self, name: str, *given: object, told: tuple[object, ...] = ()) -> int:
         """The status of another function that makes a call of the worker, by its name: of what it is given, and of where it tells what the call did."""
-
-    def _line(self, *given: object) -> int:
-        """The status of the function that answers a line."""
-        return self._made("line", *given)
 
     @abstractmethod
     def _made_calls(self, *given: object) -> int:

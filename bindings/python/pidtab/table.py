@@ -4,6 +4,7 @@ import ctypes
 import os
 import threading
 import warnings
+import weakref
 from collections.abc import Callable, Sequence
 from functools import partial
 from itertools import islice
@@ -17,7 +18,7 @@ from pidtab.lock import Lock
 from pidtab.native import check, check_loaded, head_of, read_written, text_bytes
 from pidtab.number_calls import NumberCalls
 from pidtab.owner import TABLES
-from pidtab.raw import MOST_WORKERS, OUT_OF_RANGE, Pidtab, PidtabFault, PidtabReply
+from pidtab.raw import MOST_WORKERS, OUT_OF_RANGE, Pidtab, PidtabFault
 from pidtab.saved import FilePath, SavedFile
 from pidtab.saving import Saving
 from pidtab.seat import Seat
@@ -174,12 +175,17 @@ class Table(Saving, Waiting, NumberCalls):
         self._saving, self._labels = threading.RLock(), Labels()
         if self.threads:
             self._watch = Watch()
+            self._ask_by_name()
         else:
             # With no function of Python around it, since each call goes through here. The interpreter's lock is kept, so no close comes amid it.
-            self._call = partial(hold.functions.pidtab_call, hold.at)  # type: ignore[assignment]
-            self._line = partial(hold.functions.pidtab_line, hold.at)  # type: ignore[assignment]
+            self._call, self._line = partial(hold.functions.pidtab_call, hold.at), partial(hold.functions.pidtab_line, hold.at)
         self._hold = hold
         TABLES.add(self)
+
+    def _ask_by_name(self) -> None:
+        """Has calls find the table, if it is open. They do not keep it."""
+        ask = partial(Table._bounded, weakref.proxy(self))
+        self._call, self._line = partial(ask, "pidtab_call"), partial(ask, "pidtab_line")
 
     def close(self) -> None:
         """Frees the table. A second time nothing is done. Calls that other threads are in are made before, and the saver and all waits end."""
@@ -187,10 +193,9 @@ class Table(Saving, Waiting, NumberCalls):
         if hold is not None:
             hold.check_free()
         self._hold = self._file = None
-        # From here on no call finds it, not even where somebody has the hold yet.
-        vars(self).pop("_call", None)
-        vars(self).pop("_line", None)
         if hold is not None:
+            # From here on no call finds it, not even where somebody has the hold yet.
+            self._ask_by_name()
             self._end_saver(hold)
             self._end_waits(hold)
 
@@ -271,9 +276,6 @@ class Table(Saving, Waiting, NumberCalls):
 
     def _forked(self, root: int, since: int = 0) -> None:
         self._labels.drop(root)
-
-    def _call(self, call: bytes, reply: PidtabReply) -> int:
-        return self._bounded("pidtab_call", call, reply)
 
     def _made(self, name: str, *given: object, told: tuple[object, ...] = ()) -> int:
         return self._bounded(f"pidtab_{name}", *given, *told)

@@ -1,11 +1,11 @@
 //! The example of README.md.
-use pidtab::{Calls, Error, Table, Which};
+use pidtab::{Error, Table, Which};
 
 fn main() -> Result<(), Error> {
-    let mut table = Table::open(32768)?;
-    let container = table.fork(1, true)?;
+    let table = Table::open(32768)?;
+    let container = table.fork_new(1)?;
     println!("{container:?}");
-    let worker = table.fork(container.root, false)?;
+    let worker = table.fork(container.root)?;
     println!("{worker:?}");
     println!("{:?}", table.nspid(1, worker.root)?);
     match table.getpid(99) {

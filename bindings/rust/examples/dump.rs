@@ -1,19 +1,19 @@
 //! A table as text, and a table of that text: `cargo run --offline --example dump` prints what is said at the end.
-use pidtab::{Calls, Shared, Table};
+use pidtab::{Keep, Table};
 
 fn main() -> Result<(), Box<dyn std::error::Error>> {
-    let mut table = Table::open(32768)?;
-    let init = table.fork(1, true)?.root;
+    let table = Table::open(32768)?;
+    let init = table.fork_new(1)?.root;
     let text = table.dump()?;
 
-    let mut again = Table::from_dump(&text)?;
-    println!("{:?}", again.fork(init, false)?);
-    println!("{:?}", table.fork(init, false)?);
+    let again = Table::from_dump(&text)?;
+    println!("{:?}", again.fork(init)?);
+    println!("{:?}", table.fork(init)?);
 
-    // For threads, with a history that begins there: one worker, which has made one call before.
-    let shared = Shared::from_dump(&text, &[1], 0)?;
-    let mut seat = shared.seat()?;
-    seat.fork(init, false)?;
+    // With a history that begins there: one worker, which has made one call before.
+    let recorded = Table::options().keep(Keep::All).open_dump(&text, &[1])?;
+    let mut seat = recorded.seat()?;
+    seat.fork(init)?;
     println!("{:?}", seat.ordinal());
 
     if let Err(refused) = Table::from_dump(text.replace("live", "dead")) {

@@ -1,5 +1,5 @@
 //! A saved history, by a supervisor that lives twice: `cargo run --offline --example saved` prints what is said at the end.
-use pidtab::{Calls, Shared};
+use pidtab::{Keep, Table};
 use std::fs::{self, File};
 use std::io;
 
@@ -12,14 +12,14 @@ fn live(path: &str) -> io::Result<()> {
         .create(true)
         .truncate(false)
         .open(path)?;
-    let (shared, mut saved) = Shared::options(32768, 4).resume(&file)?;
+    let (table, mut saved) = Table::options().keep(Keep::All).resume(&file)?;
     println!(
         "calls: {}, bytes left out: {}",
         saved.calls(),
         saved.left_out()
     );
-    let child = shared.seat()?.fork(1, false)?;
-    shared.save(&mut saved, &file)?;
+    let child = table.fork(1)?;
+    table.save(&mut saved, &file)?;
     file.sync_data()?;
     println!("child {}", child.number);
     Ok(())
@@ -33,7 +33,7 @@ fn main() -> io::Result<()> {
     fs::write(path, &bytes)?;
     live(path)?;
     bytes[60] ^= 1;
-    if let Err(fault) = Shared::load(&bytes[..], 0) {
+    if let Err(fault) = Table::options().keep(Keep::All).load(&bytes[..]) {
         println!("{fault}");
     }
     fs::remove_file(path)

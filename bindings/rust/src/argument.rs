@@ -22,6 +22,8 @@ pub struct Argument {
     pub least: u64,
     /// The greatest that it may be.
     pub most: u64,
+    /// What is said in place of these; nothing of most.
+    why: &'static str,
 }
 
 impl Argument {
@@ -32,14 +34,14 @@ impl Argument {
         least: impl Into<u64>,
         most: impl Into<u64>,
     ) -> Option<Argument> {
-        let (value, least, most) = (value.into(), least.into(), most.into());
         let found = Argument {
             name,
-            value,
-            least,
-            most,
+            value: value.into(),
+            least: least.into(),
+            most: most.into(),
+            why: "",
         };
-        (value < least || value > most).then_some(found)
+        (found.value < found.least || found.value > found.most).then_some(found)
     }
 
     /// `pid_max`, if no table has it.
@@ -53,15 +55,37 @@ impl Argument {
     }
 
     /// The number of workers, if no table has so many.
-    pub(crate) fn workers(workers: u64) -> Option<Argument> {
+    pub(crate) fn workers(workers: u32) -> Option<Argument> {
         Argument::outside("workers", workers, 1u32, raw::MOST_WORKERS)
     }
 
-    /// What of the settings of a shared table no table has.
-    pub(crate) fn settings(pid_max: u32, workers: u32, first_stamp: u64) -> Option<Argument> {
-        Argument::pid_max(pid_max)
-            .or_else(|| Argument::workers(workers.into()))
-            .or_else(|| Argument::outside("first_stamp", first_stamp, 1u32, u64::MAX))
+    /// So many workers of a table without a history.
+    pub(crate) fn workers_of_no_history(workers: u32) -> Argument {
+        Argument {
+            name: "workers",
+            value: workers.into(),
+            least: 1,
+            most: 1,
+            why: "workers count the calls of a history: open it with keep",
+        }
+    }
+
+    /// The sum of the counts of calls that are given beside a text with the stamp.
+    pub(crate) fn counts(counts: &[u64], stamp: u64) -> Argument {
+        Argument {
+            name: "the sum of counts",
+            value: counts.iter().fold(0, |sum, it| sum.saturating_add(*it)),
+            least: 0,
+            most: stamp - 1,
+            why: "",
+        }
+    }
+
+    /// What of the settings no table has.
+    pub(crate) fn settings(head: &raw::SavedHead) -> Option<Argument> {
+        Argument::pid_max(head.pid_max)
+            .or_else(|| Argument::workers(head.workers))
+            .or_else(|| Argument::outside("first_stamp", head.first_stamp, 1u32, u64::MAX))
     }
 }
 
@@ -72,7 +96,11 @@ impl fmt::Display for Argument {
             value,
             least,
             most,
+            why,
         } = self;
-        write!(to, "{name} is {value}, and not {least} to {most}")
+        if why.is_empty() {
+            return write!(to, "{name} is {value}, and not {least} to {most}");
+        }
+        to.write_str(why)
     }
 }

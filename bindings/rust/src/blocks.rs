@@ -16,18 +16,18 @@ pub struct Head {
 /// How far the blocks go that were written or read: their running checksum.
 ///
 /// ```
-/// use pidtab::{Blocks, Call, Calls, Head, Table};
+/// use pidtab::{Blocks, Call, Head, Table};
 ///
 /// let head = Head { pid_max: 32768, workers: 1, first_stamp: 1 };
-/// let (mut table, mut bytes) = (Table::open(head.pid_max)?, Vec::new());
+/// let (table, mut bytes) = (Table::open(head.pid_max)?, Vec::new());
 /// let mut blocks = Blocks::begin(&head, &mut bytes)?;
 /// let call = Call::Fork { caller: 1, new_space: true };
 /// let reply = table.call(call)?;
 /// blocks.put(0, call, &reply, &mut bytes)?;
 ///
 /// let (read, mut blocks) = Blocks::read_head(&bytes)?;
-/// let mut again = Table::open(read.pid_max)?;
-/// let made = again.replay(&mut blocks, &bytes[Blocks::HEAD..])?;
+/// let again = Table::open(read.pid_max)?;
+/// let made = blocks.replay(&again, &bytes[Blocks::HEAD..])?;
 /// assert_eq!((made.call, made.reply, made.size), (call, reply, 48));
 /// # Ok::<(), Box<dyn std::error::Error>>(())
 /// ```
@@ -83,7 +83,7 @@ impl Note {
     }
 
     fn entry(&self) -> raw::Entry {
-        let mut entry = raw::Entry::blank();
+        let mut entry = raw::Entry::BLANK;
         (entry.call.operation, entry.call.choice) = (u32::from(self.kind), self.text.len() as u32);
         (entry.call.caller, entry.call.number, entry.call.id) = (self.numbers[0], self.numbers[1], self.id);
         if !self.text.is_empty() {
@@ -114,7 +114,7 @@ pub struct Made {
 
 impl Default for Made {
     fn default() -> Made {
-        let entry = raw::Entry::blank();
+        let entry = raw::Entry::BLANK;
         Made { entry }
     }
 }
@@ -149,7 +149,7 @@ impl Blocks {
             first_stamp: head.first_stamp,
         };
         let (mut block, mut sum) = ([0; raw::SAVED_BLOCK], 0);
-        let outside = || Argument::settings(head.pid_max, head.workers, head.first_stamp);
+        let outside = || Argument::settings(&numbers);
         raw::put_head(&numbers, &mut block, &mut sum)
             .map_err(|status| Error::of_argument(status, outside))?;
         to.extend_from_slice(&block);
@@ -252,27 +252,17 @@ impl Blocks {
     }
 }
 
-impl Table {
-    /// Makes a call of a worker, whose number is only written down, with its reply in the place of the last one.
-    ///
-    /// # Errors
-    /// Those of [`Calls::call`](crate::Calls::call); then what was made is that call, without a reply.
-    pub fn make(&mut self, worker: u32, call: Call, made: &mut Made) -> Result<(), Error> {
-        made.entry.worker = u64::from(worker);
-        made.entry.call = call.numbers();
-        Error::unless_done(self.raw.call(&made.entry.call, &mut made.entry.reply))
-    }
-
-    /// Makes the saved call at the front of the bytes again, and compares the reply with the saved one.
+impl Blocks {
+    /// Has a table make the saved call at the front of the bytes again, and compares the reply with the saved one.
     ///
     /// # Errors
     /// `Torn` where the bytes end within it; `WrongByte`, and [`Blocks::wrong`] says where. After these the table and the blocks are as they
     /// were. `Table(Differs)`: the call was made, and has another reply. `Table(OutOfRange)` where there is no such call, `Table(NoMemory)`,
-    /// `Table(Spent)`, `Table(Busy)`.
-    pub fn replay(&mut self, blocks: &mut Blocks, bytes: &[u8]) -> Result<Replayed, SavedFault> {
-        let (entry, size) = blocks.take(bytes)?;
+    /// `Table(Spent)`, `Table(Busy)`, `Table(Unsaved)`.
+    pub fn replay(&mut self, table: &Table, bytes: &[u8]) -> Result<Replayed, SavedFault> {
+        let (entry, size) = self.take(bytes)?;
         let mut reply = raw::Reply::BLANK;
-        Error::unless_done(self.raw.call(&entry.call, &mut reply))?;
+        table.make_as_it_is(&entry.call, &mut reply)?;
         if reply != entry.reply {
             return Err(Error::Differs.into());
         }
@@ -285,10 +275,26 @@ impl Table {
     }
 }
 
+impl Table {
+    /// Makes a call, as of a worker whose number is only written down, with its reply in the place of the last one. Labels stay as they are.
+    ///
+    /// # Errors
+    /// Those of [`Table::call`]; then what was made is that call, without a reply.
+    pub fn make(&self, worker: u32, call: Call, made: &mut Made) -> Result<(), Error> {
+        made.entry.worker = u64::from(worker);
+        made.entry.call = call.numbers();
+        self.make_as_it_is(&made.entry.call, &mut made.entry.reply)
+    }
+
+    fn make_as_it_is(&self, call: &raw::Call, reply: &mut raw::Reply) -> Result<(), Error> {
+        let _turn = self.for_calls(1)?;
+        Error::unless_done(self.raw.call(call, reply))
+    }
+}
+
 #[cfg(test)]
 mod tests {
     use super::*;
-    use crate::Calls;
 
     /// The worked example of docs/SAVED.md, without the first block.
     fn example() -> (Vec<u8>, Vec<Call>) {
@@ -307,7 +313,7 @@ mod tests {
                 pgid: -1,
             },
         ];
-        let mut table = Table::open(head.pid_max).expect("a table");
+        let table = Table::open(head.pid_max).expect("a table");
         let mut bytes = Vec::new();
         let mut blocks = Blocks::begin(&head, &mut bytes).expect("a head");
         for (place, call) in calls.iter().enumerate() {
@@ -342,11 +348,11 @@ mod tests {
     fn each_call_again_and_each_end() {
         let (bytes, calls) = example();
         let (_, mut blocks) = Blocks::read_head(&bytes).expect("a head");
-        let (mut table, mut at) = (Table::open(32768).expect("a table"), Blocks::HEAD);
+        let (table, mut at) = (Table::open(32768).expect("a table"), Blocks::HEAD);
         for call in calls {
-            let torn = table.replay(&mut blocks, &bytes[at..at + 47]);
+            let torn = blocks.replay(&table, &bytes[at..at + 47]);
             assert!(matches!(torn, Err(SavedFault::Torn)));
-            let made = table.replay(&mut blocks, &bytes[at..]).expect("a call");
+            let made = blocks.replay(&table, &bytes[at..]).expect("a call");
             assert_eq!(made.call, call);
             at += made.size;
         }
@@ -365,8 +371,8 @@ mod tests {
         for place in 0..48 {
             let mut entry = bytes[Blocks::HEAD..].to_vec();
             entry[place] ^= 1;
-            let (mut table, mut blocks) = (Table::open(32768).expect("a table"), begun);
-            let wrong = table.replay(&mut blocks, &entry);
+            let (table, mut blocks) = (Table::open(32768).expect("a table"), begun);
+            let wrong = blocks.replay(&table, &entry);
             assert!(matches!(wrong, Err(SavedFault::WrongByte)), "{place}");
             assert_eq!((blocks.wrong(), blocks.sum()), (0, begun.sum()));
         }
@@ -383,8 +389,8 @@ mod tests {
             assert!(bytes.len() % Blocks::HEAD == 0 && bytes.len() <= Blocks::LONGEST);
             let mut read = Blocks::behind(5);
             assert!(matches!(read.take_note(&bytes[..bytes.len() - 1]), Err(SavedFault::Torn)));
-            let mut table = Table::open(32768).expect("a table");
-            let made = table.replay(&mut read.clone(), &bytes);
+            let table = Table::open(32768).expect("a table");
+            let made = read.clone().replay(&table, &bytes);
             assert!(matches!(made, Err(SavedFault::Table(Error::OutOfRange))));
             let size = bytes.len();
             assert!(matches!(read.take_note(&bytes), Ok(Some((it, of))) if it == note && of == size));
@@ -414,15 +420,15 @@ mod tests {
     fn another_reply() {
         let (bytes, _) = example();
         let (_, mut blocks) = Blocks::read_head(&bytes).expect("a head");
-        let mut table = Table::open(32768).expect("a table");
+        let table = Table::open(32768).expect("a table");
         table.getpid(1).expect("a number");
-        let differs = table.replay(&mut blocks, &bytes[Blocks::HEAD..]);
+        let differs = blocks.replay(&table, &bytes[Blocks::HEAD..]);
         // The namespace's id is another, and the reply is the same; a task's number is another after one more fork.
         assert!(differs.is_ok());
         let (_, mut blocks) = Blocks::read_head(&bytes).expect("a head");
-        let mut table = Table::open(32768).expect("a table");
-        table.fork(1, false).expect("a child");
-        let differs = table.replay(&mut blocks, &bytes[Blocks::HEAD..]);
+        let table = Table::open(32768).expect("a table");
+        table.fork(1).expect("a child");
+        let differs = blocks.replay(&table, &bytes[Blocks::HEAD..]);
         assert!(matches!(differs, Err(SavedFault::Table(Error::Differs))));
     }
 

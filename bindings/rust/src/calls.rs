@@ -1,5 +1,5 @@
-//! The calls: as values, and each as a method of what makes them.
-use crate::{raw, texts, Child, Error, Reaped, Refusal};
+//! The calls: as values, and each as a method of a table.
+use crate::{raw, texts, Child, Error, Reaped, Refusal, Table};
 
 /// The children that a wait selects. More ways may come.
 #[derive(Clone, Copy, Debug, PartialEq, Eq, Hash)]
@@ -27,7 +27,7 @@ pub enum Kind {
     Session,
 }
 
-/// A call as a value. Each says which method of [`Calls`] makes it; its fields are the arguments of that method. More calls may come.
+/// A call as a value. Each says which method of a [`Table`] makes it; its fields are the arguments of that method. More calls may come.
 ///
 /// A `caller` and a `task` are root numbers, an `id` and a `parent` are ids of control groups, of which 0 is the root's, and each other number
 /// of a process is the caller's own. A query is one that `ask` answers too.
@@ -36,43 +36,43 @@ pub enum Kind {
 #[allow(missing_docs)] // A field has its words at its call.
 pub enum Call {
     // Written by tools/interface: values.
-    /// [`Calls::fork`].
+    /// [`Table::fork`], [`Table::fork_new`].
     Fork { caller: u32, new_space: bool },
-    /// [`Calls::getpid`]; a query.
+    /// [`Table::getpid`]; a query.
     Getpid { caller: u32 },
-    /// [`Calls::nspid`]; a query.
+    /// [`Table::nspid`]; a query.
     Nspid { caller: u32, number: u32 },
-    /// [`Calls::exec`].
+    /// [`Table::exec`].
     Exec { caller: u32 },
-    /// [`Calls::exit`].
+    /// [`Table::exit`].
     Exit { caller: u32, status: u8 },
-    /// [`Calls::wait`].
+    /// [`Table::wait`].
     Wait { caller: u32, which: Which },
-    /// [`Calls::getppid`]; a query.
+    /// [`Table::getppid`]; a query.
     Getppid { caller: u32 },
-    /// [`Calls::setpgid`].
+    /// [`Table::setpgid`].
     Setpgid { caller: u32, pid: i32, pgid: i32 },
-    /// [`Calls::setsid`].
+    /// [`Table::setsid`].
     Setsid { caller: u32 },
-    /// [`Calls::mk`].
+    /// [`Table::mk`].
     Mk { parent: u64 },
-    /// [`Calls::rm`].
+    /// [`Table::rm`].
     Rm { id: u64 },
-    /// [`Calls::limit`].
+    /// [`Table::limit`].
     Limit { id: u64, limit: Option<u32> },
-    /// [`Calls::move_task`].
+    /// [`Table::move_task`].
     Move { task: u32, id: u64 },
-    /// [`Calls::count`]; a query.
+    /// [`Table::count`]; a query.
     Count { id: u64 },
-    /// [`Calls::getpgid`]; a query.
+    /// [`Table::getpgid`]; a query.
     Getpgid { caller: u32, pid: u32 },
-    /// [`Calls::getsid`]; a query.
+    /// [`Table::getsid`]; a query.
     Getsid { caller: u32, pid: u32 },
-    /// [`Calls::next`]; a query.
+    /// [`Table::next`]; a query.
     Next { caller: u32, kind: Kind, from: u32 },
-    /// [`Calls::join`].
+    /// [`Table::join`].
     Join { caller: u32, number: u32 },
-    /// [`Calls::subreaper`].
+    /// [`Table::subreaper`].
     Subreaper { caller: u32, on: bool },
     // The end of values.
 }
@@ -81,11 +81,11 @@ impl Call {
     /// The call as a line of the script language, without a newline: `line` of a table makes the same call of it. It needs no table.
     ///
     /// ```
-    /// use pidtab::{Call, Calls, Table};
+    /// use pidtab::{Call, Table};
     ///
     /// let call = Call::Fork { caller: 1, new_space: true };
     /// assert_eq!(call.line(), "fork 1 new");
-    /// let mut table = Table::open(32768)?;
+    /// let table = Table::open(32768)?;
     /// assert_eq!(table.line(call.line())?, "child 2 root 2");
     /// # Ok::<(), std::io::Error>(())
     /// ```
@@ -155,255 +155,249 @@ impl Reply {
     }
 }
 
-pub(crate) mod sealed {
-    /// What no other crate can implement, so that more methods may come.
-    pub trait Sealed {}
+/// What a reply of each kind tells. One of another kind is given back.
+impl Reply {
+    pub(crate) fn child(self) -> Result<Child, Reply> {
+        match self {
+            Reply::Forked(child) => Ok(child),
+            other => Err(other),
+        }
+    }
+
+    pub(crate) fn nothing(self) -> Result<(), Reply> {
+        match self {
+            Reply::Done => Ok(()),
+            other => Err(other),
+        }
+    }
+
+    pub(crate) fn number(self) -> Result<u32, Reply> {
+        match self {
+            Reply::Number(number) => Ok(number),
+            other => Err(other),
+        }
+    }
+
+    pub(crate) fn next_one(self) -> Result<Option<u32>, Reply> {
+        match self {
+            Reply::End => Ok(None),
+            other => other.number().map(Some),
+        }
+    }
+
+    pub(crate) fn levels(self) -> Result<Vec<u32>, Reply> {
+        match self {
+            Reply::Levels(numbers) => Ok(numbers),
+            other => Err(other),
+        }
+    }
+
+    pub(crate) fn reaped(self) -> Result<Option<Reaped>, Reply> {
+        match self {
+            Reply::Reaped(reaped) => Ok(Some(reaped)),
+            Reply::NoneYet => Ok(None),
+            other => Err(other),
+        }
+    }
+
+    pub(crate) fn counted(self) -> Result<u64, Reply> {
+        match self {
+            Reply::Counted(count) => Ok(count),
+            other => Err(other),
+        }
+    }
+
+    pub(crate) fn control(self) -> Result<u64, Reply> {
+        match self {
+            Reply::Control(id) => Ok(id),
+            other => Err(other),
+        }
+    }
 }
 
-/// The calls of a [`Table`](crate::Table), and of a [`Seat`](crate::Seat) of a table that threads share.
-///
-/// A caller is a root number; each other number of a process is the caller's own. Beside the errors that a method names, each may be `Spent`,
-/// and `Busy` in the forked child of a process with threads. Each call of a seat may be `NoMemory`, as its entry in the history takes memory;
-/// of a table, a fork and a `mk` alone. An error other than `Refused` says that the call was not made, and is not counted.
-///
-/// A call costs a search on each level of the namespaces that it names, and a step for each control group around the task. An exit may cost a
-/// step for each child, and that of an init one for each member of its namespace.
-pub trait Calls: sealed::Sealed {
-    /// Makes the call that the value says. What the table refuses is a reply here, [`Reply::Refused`], and an error of each method below.
-    ///
-    /// # Errors
-    /// `NoMemory`, `Spent`, `Busy`.
-    fn call(&mut self, call: Call) -> Result<Reply, Error>;
+impl Call {
+    /// What the call is told by its reply, or why it was refused.
+    pub(crate) fn told<T>(
+        self,
+        reply: Reply,
+        read: impl FnOnce(Reply) -> Result<T, Reply>,
+    ) -> Result<T, Error> {
+        read(reply).or_else(|other| other.refused(Some(self)))
+    }
+}
 
+impl Table {
+    fn made<T>(
+        &self,
+        call: Call,
+        read: impl FnOnce(Reply) -> Result<T, Reply>,
+    ) -> Result<T, Error> {
+        call.told(self.call(call)?, read)
+    }
+}
+
+/// The calls, which are made for worker 0.
+#[rustfmt::skip]
+impl Table {
     // Written by tools/interface: methods.
-    /// `fork(2)`, or `clone(2)` with `CLONE_NEWPID`: a child in the namespace for the caller's children, or in a new one.
+    /// `fork(2)`: a child in the namespace for the caller's children.
     ///
     /// # Errors
     /// `Refused` as `NoCaller`, `TooDeep`, `Elsewhere`, `SpaceFallen`, `NoNumber`, `PidsLimit`; `NoMemory`.
-    fn fork(&mut self, caller: u32, new_space: bool) -> Result<Child, Error> {
-        let call = Call::Fork { caller, new_space };
-        match self.call(call)? {
-            Reply::Forked(child) => Ok(child),
-            other => other.refused(Some(call)),
-        }
+    pub fn fork(&self, caller: u32) -> Result<Child, Error> {
+        self.made(Call::Fork { caller, new_space: false }, Reply::child)
+    }
+
+    /// `clone(2)` with `CLONE_NEWPID`: as [`Table::fork`], and the child is the init of a new namespace.
+    ///
+    /// # Errors
+    /// `Refused` as `NoCaller`, `TooDeep`, `Elsewhere`, `SpaceFallen`, `NoNumber`, `PidsLimit`; `NoMemory`.
+    pub fn fork_new(&self, caller: u32) -> Result<Child, Error> {
+        self.made(Call::Fork { caller, new_space: true }, Reply::child)
     }
 
     /// `getpid(2)`: the caller's number in its own namespace.
     ///
     /// # Errors
     /// `Refused` as `NoCaller`.
-    fn getpid(&mut self, caller: u32) -> Result<u32, Error> {
-        let call = Call::Getpid { caller };
-        match self.call(call)? {
-            Reply::Number(number) => Ok(number),
-            other => other.refused(Some(call)),
-        }
+    pub fn getpid(&self, caller: u32) -> Result<u32, Error> {
+        self.made(Call::Getpid { caller }, Reply::number)
     }
 
     /// NSpid of `proc(5)`: the numbers of the task `number` from the caller's namespace inwards, outermost first: 1 to 33 of them.
     ///
     /// # Errors
     /// `Refused` as `NoCaller`, `NoTask`.
-    fn nspid(&mut self, caller: u32, number: u32) -> Result<Vec<u32>, Error> {
-        let call = Call::Nspid { caller, number };
-        match self.call(call)? {
-            Reply::Levels(numbers) => Ok(numbers),
-            other => other.refused(Some(call)),
-        }
+    pub fn nspid(&self, caller: u32, number: u32) -> Result<Vec<u32>, Error> {
+        self.made(Call::Nspid { caller, number }, Reply::levels)
     }
 
     /// `execve(2)`: the caller executes a program.
     ///
     /// # Errors
     /// `Refused` as `NoCaller`.
-    fn exec(&mut self, caller: u32) -> Result<(), Error> {
-        let call = Call::Exec { caller };
-        match self.call(call)? {
-            Reply::Done => Ok(()),
-            other => other.refused(Some(call)),
-        }
+    pub fn exec(&self, caller: u32) -> Result<(), Error> {
+        self.made(Call::Exec { caller }, Reply::nothing)
     }
 
     /// `_exit(2)`: the caller ends, and its namespace falls if it is the init there; `status` is 0 to 255.
     ///
     /// # Errors
     /// `Refused` as `NoCaller`, `RootInit`.
-    fn exit(&mut self, caller: u32, status: u8) -> Result<(), Error> {
-        let call = Call::Exit { caller, status };
-        match self.call(call)? {
-            Reply::Done => Ok(()),
-            other => other.refused(Some(call)),
-        }
+    pub fn exit(&self, caller: u32, status: u8) -> Result<(), Error> {
+        self.made(Call::Exit { caller, status }, Reply::nothing)
     }
 
     /// `waitpid(2)` with `WNOHANG`: takes an ended child away; none where children match and none of them has ended.
     ///
     /// # Errors
     /// `Refused` as `NoCaller`, `NoChild`.
-    fn wait(&mut self, caller: u32, which: Which) -> Result<Option<Reaped>, Error> {
-        let call = Call::Wait { caller, which };
-        match self.call(call)? {
-            Reply::Reaped(reaped) => Ok(Some(reaped)),
-            Reply::NoneYet => Ok(None),
-            other => other.refused(Some(call)),
-        }
+    pub fn wait(&self, caller: u32, which: Which) -> Result<Option<Reaped>, Error> {
+        self.made(Call::Wait { caller, which }, Reply::reaped)
     }
 
     /// `getppid(2)`: the number of the caller's parent, 0 for one that it cannot see.
     ///
     /// # Errors
     /// `Refused` as `NoCaller`.
-    fn getppid(&mut self, caller: u32) -> Result<u32, Error> {
-        let call = Call::Getppid { caller };
-        match self.call(call)? {
-            Reply::Number(number) => Ok(number),
-            other => other.refused(Some(call)),
-        }
+    pub fn getppid(&self, caller: u32) -> Result<u32, Error> {
+        self.made(Call::Getppid { caller }, Reply::number)
     }
 
     /// `setpgid(2)`: the task `pid` goes into the group `pgid`; 0 is the caller, and the task.
     ///
     /// # Errors
     /// `Refused` as `NoCaller`, `BadGroup`, `NoTask`, `OtherSession`, `Executed`, `IsLeader`, `NoGroup`.
-    fn setpgid(&mut self, caller: u32, pid: i32, pgid: i32) -> Result<(), Error> {
-        let call = Call::Setpgid { caller, pid, pgid };
-        match self.call(call)? {
-            Reply::Done => Ok(()),
-            other => other.refused(Some(call)),
-        }
+    pub fn setpgid(&self, caller: u32, pid: i32, pgid: i32) -> Result<(), Error> {
+        self.made(Call::Setpgid { caller, pid, pgid }, Reply::nothing)
     }
 
     /// `setsid(2)`: the caller leads a new session and a new group; its number.
     ///
     /// # Errors
     /// `Refused` as `NoCaller`, `IsLeader`.
-    fn setsid(&mut self, caller: u32) -> Result<u32, Error> {
-        let call = Call::Setsid { caller };
-        match self.call(call)? {
-            Reply::Number(number) => Ok(number),
-            other => other.refused(Some(call)),
-        }
+    pub fn setsid(&self, caller: u32) -> Result<u32, Error> {
+        self.made(Call::Setsid { caller }, Reply::number)
     }
 
     /// A new control group below the one with the id `parent`, of which 0 is the root: its id.
     ///
     /// # Errors
     /// `Refused` as `NoControl`, `ControlDepth`; `NoMemory`.
-    fn mk(&mut self, parent: u64) -> Result<u64, Error> {
-        let call = Call::Mk { parent };
-        match self.call(call)? {
-            Reply::Control(id) => Ok(id),
-            other => other.refused(Some(call)),
-        }
+    pub fn mk(&self, parent: u64) -> Result<u64, Error> {
+        self.made(Call::Mk { parent }, Reply::control)
     }
 
     /// Removes a control group without live tasks and children.
     ///
     /// # Errors
     /// `Refused` as `NoControl`, `RootControl`, `ControlBusy`.
-    fn rm(&mut self, id: u64) -> Result<(), Error> {
-        let call = Call::Rm { id };
-        match self.call(call)? {
-            Reply::Done => Ok(()),
-            other => other.refused(Some(call)),
-        }
+    pub fn rm(&self, id: u64) -> Result<(), Error> {
+        self.made(Call::Rm { id }, Reply::nothing)
     }
 
     /// How many tasks the control group may have, 0 to 4194304, or none for no limit.
     ///
     /// # Errors
     /// `Refused` as `NoControl`, `RootControl`, `BadLimit`.
-    fn limit(&mut self, id: u64, limit: Option<u32>) -> Result<(), Error> {
-        let call = Call::Limit { id, limit };
-        match self.call(call)? {
-            Reply::Done => Ok(()),
-            other => other.refused(Some(call)),
-        }
+    pub fn limit(&self, id: u64, limit: Option<u32>) -> Result<(), Error> {
+        self.made(Call::Limit { id, limit }, Reply::nothing)
     }
 
     /// The task, by its root number, goes into the control group.
     ///
     /// # Errors
     /// `Refused` as `NoTask`, `NoControl`.
-    fn move_task(&mut self, task: u32, id: u64) -> Result<(), Error> {
-        let call = Call::Move { task, id };
-        match self.call(call)? {
-            Reply::Done => Ok(()),
-            other => other.refused(Some(call)),
-        }
+    pub fn move_task(&self, task: u32, id: u64) -> Result<(), Error> {
+        self.made(Call::Move { task, id }, Reply::nothing)
     }
 
     /// How many tasks the control group and those below it have.
     ///
     /// # Errors
     /// `Refused` as `NoControl`.
-    fn count(&mut self, id: u64) -> Result<u64, Error> {
-        let call = Call::Count { id };
-        match self.call(call)? {
-            Reply::Counted(count) => Ok(count),
-            other => other.refused(Some(call)),
-        }
+    pub fn count(&self, id: u64) -> Result<u64, Error> {
+        self.made(Call::Count { id }, Reply::counted)
     }
 
     /// `getpgid(2)`: the process group of the task `pid`, where 0 is the caller; 0 where it cannot be seen.
     ///
     /// # Errors
     /// `Refused` as `NoCaller`, `NoTask`.
-    fn getpgid(&mut self, caller: u32, pid: u32) -> Result<u32, Error> {
-        let call = Call::Getpgid { caller, pid };
-        match self.call(call)? {
-            Reply::Number(number) => Ok(number),
-            other => other.refused(Some(call)),
-        }
+    pub fn getpgid(&self, caller: u32, pid: u32) -> Result<u32, Error> {
+        self.made(Call::Getpgid { caller, pid }, Reply::number)
     }
 
     /// `getsid(2)`: the session of the task `pid`, where 0 is the caller; 0 where it cannot be seen.
     ///
     /// # Errors
     /// `Refused` as `NoCaller`, `NoTask`.
-    fn getsid(&mut self, caller: u32, pid: u32) -> Result<u32, Error> {
-        let call = Call::Getsid { caller, pid };
-        match self.call(call)? {
-            Reply::Number(number) => Ok(number),
-            other => other.refused(Some(call)),
-        }
+    pub fn getsid(&self, caller: u32, pid: u32) -> Result<u32, Error> {
+        self.made(Call::Getsid { caller, pid }, Reply::number)
     }
 
     /// The least number from `from` on that is in use as that kind in the caller's namespace.
     ///
     /// # Errors
     /// `Refused` as `NoCaller`.
-    fn next(&mut self, caller: u32, kind: Kind, from: u32) -> Result<Option<u32>, Error> {
-        let call = Call::Next { caller, kind, from };
-        match self.call(call)? {
-            Reply::Number(number) => Ok(Some(number)),
-            Reply::End => Ok(None),
-            other => other.refused(Some(call)),
-        }
+    pub fn next(&self, caller: u32, kind: Kind, from: u32) -> Result<Option<u32>, Error> {
+        self.made(Call::Next { caller, kind, from }, Reply::next_one)
     }
 
     /// `setns(2)` with `CLONE_NEWPID`: the caller's later children go into the namespace of the task `number`.
     ///
     /// # Errors
     /// `Refused` as `NoCaller`, `NoTask`.
-    fn join(&mut self, caller: u32, number: u32) -> Result<(), Error> {
-        let call = Call::Join { caller, number };
-        match self.call(call)? {
-            Reply::Done => Ok(()),
-            other => other.refused(Some(call)),
-        }
+    pub fn join(&self, caller: u32, number: u32) -> Result<(), Error> {
+        self.made(Call::Join { caller, number }, Reply::nothing)
     }
 
     /// `PR_SET_CHILD_SUBREAPER` of `prctl(2)`: the caller takes orphans of its namespace, or no more.
     ///
     /// # Errors
     /// `Refused` as `NoCaller`.
-    fn subreaper(&mut self, caller: u32, on: bool) -> Result<(), Error> {
-        let call = Call::Subreaper { caller, on };
-        match self.call(call)? {
-            Reply::Done => Ok(()),
-            other => other.refused(Some(call)),
-        }
+    pub fn subreaper(&self, caller: u32, on: bool) -> Result<(), Error> {
+        self.made(Call::Subreaper { caller, on }, Reply::nothing)
     }
     // The end of methods.
 }

@@ -1,4 +1,4 @@
-//! The cases of `interface/cases`, whose README says what each step is: by lines, by values and by methods, on tables and on one that threads share.
+//! The cases of `interface/cases`, whose README says what each step is: by lines, by values and by methods, on tables with and without a history.
 use crate::json::errno_name;
 use crate::*;
 use std::fs;
@@ -8,8 +8,9 @@ use std::path::Path;
 struct World {
     /// By lines, by values and by methods; none where the case is of a history alone.
     tables: Vec<Table>,
-    shared: &'static Shared,
-    seats: Vec<Seat<'static>>,
+    /// With a history.
+    recorded: &'static Table,
+    seats: Vec<Seat<&'static Table>>,
     at: usize,
     /// The latest reply.
     told: Reply,
@@ -19,34 +20,44 @@ struct World {
 }
 
 // Written by tools/interface: questions.
+/// What a question tells; none for a step that is no question.
 #[rustfmt::skip]
-macro_rules! question {
-    ($it:expr, $word:expr, $n:expr) => { match $word {
-        "stat" => say_stat($it.stat($n[0] as u32, $n[1] as u32)),
-        "children" => say_page($it.children($n[0] as u32, $n[1] as u32, $n[2] as u32)),
-        "group_members" => say_page($it.group_members($n[0] as u32, $n[1] as u32, $n[2] as u32)),
-        "session_members" => say_page($it.session_members($n[0] as u32, $n[1] as u32, $n[2] as u32)),
-        "namespace_members" => say_page($it.namespace_members($n[0] as u32, $n[1] as u32, $n[2] as u32)),
-        "namespace_own" => say_page($it.namespace_own($n[0] as u32, $n[1] as u32, $n[2] as u32)),
-        "space" => say_space_stat($it.space($n[0])),
-        "spaces_inside" => say_ids($it.spaces_inside($n[0], $n[1])),
-        "controls_inside" => say_ids($it.controls_inside($n[0], $n[1])),
-        "control_tasks" => say_page($it.control_tasks($n[0] as u32, $n[1], $n[2] as u32)),
+fn question(table: &Table, word: &str, n: &[u64]) -> Option<String> {
+    Some(match word {
+        "stat" => say_stat(table.stat(n[0] as u32, n[1] as u32)),
+        "children" => say_page(table.children(n[0] as u32, n[1] as u32, n[2] as u32)),
+        "group_members" => say_page(table.group_members(n[0] as u32, n[1] as u32, n[2] as u32)),
+        "session_members" => say_page(table.session_members(n[0] as u32, n[1] as u32, n[2] as u32)),
+        "namespace_members" => say_page(table.namespace_members(n[0] as u32, n[1] as u32, n[2] as u32)),
+        "namespace_own" => say_page(table.namespace_own(n[0] as u32, n[1] as u32, n[2] as u32)),
+        "space" => say_space_stat(table.space(n[0])),
+        "spaces_inside" => say_ids(table.spaces_inside(n[0], n[1])),
+        "controls_inside" => say_ids(table.controls_inside(n[0], n[1])),
+        "control_tasks" => say_page(table.control_tasks(n[0] as u32, n[1], n[2] as u32)),
         _ => return None,
-    } };
+    })
 }
 // The end of questions.
 
+/// A table with a history of so many entries, 0 for all.
+fn kept(entries: u64) -> Options {
+    let keep = match entries {
+        0 => Keep::All,
+        _ => entries.into(),
+    };
+    Table::options().keep(keep).threads()
+}
+
 impl World {
-    fn of(tables: Vec<Table>, shared: Shared, keep: u64, is_whole: bool) -> World {
-        let shared: &'static Shared = Box::leak(Box::new(shared));
-        let seats = (0..shared.workers())
-            .map(|_| shared.seat().expect("a seat"))
+    fn of(tables: Vec<Table>, recorded: Table, keep: u64, is_whole: bool) -> World {
+        let recorded: &'static Table = Box::leak(Box::new(recorded));
+        let seats = (0..recorded.workers())
+            .map(|_| recorded.seat().expect("a seat"))
             .collect();
-        assert_eq!(shared.seat().err(), Some(Error::NoSeat));
+        assert_eq!(recorded.seat().err(), Some(Error::NoSeat));
         World {
             tables,
-            shared,
+            recorded,
             seats,
             at: 0,
             told: Reply::Done,
@@ -59,26 +70,28 @@ impl World {
         let [pid_max, workers, stamp, keep] = settings else {
             panic!("{settings:?}")
         };
-        let options = Shared::options(*pid_max as u32, *workers as u32);
-        let shared = options.first_stamp(*stamp).keep(*keep).open();
+        let options = kept(*keep)
+            .pid_max(*pid_max as u32)
+            .workers(*workers as u32);
+        let recorded = options.first_stamp(*stamp).open();
         let mut tables = Vec::new();
         if settings[1..] == [1, 1, 0] {
             let opened: Vec<_> = (0..3).map(|_| Table::open(*pid_max as u32)).collect();
             assert!(opened
                 .iter()
-                .all(|it| it.as_ref().err() == shared.as_ref().err()));
+                .all(|it| it.as_ref().err() == recorded.as_ref().err()));
             tables = opened.into_iter().flatten().collect();
         }
-        Ok(World::of(tables, shared?, *keep, *stamp == 1))
+        Ok(World::of(tables, recorded?, *keep, *stamp == 1))
     }
 
     fn load(text: &str, counts: &[u64], keep: u64) -> Result<World, TextError> {
-        let shared = Shared::from_dump(text, counts, keep)?;
+        let recorded = kept(keep).open_dump(text, counts)?;
         let tables = (0..3).map(|_| Table::from_dump(text).expect("a table"));
         let is_alone = counts == [0] && keep == 0;
         Ok(World::of(
             tables.take(if is_alone { 3 } else { 0 }).collect(),
-            shared,
+            recorded,
             keep,
             false,
         ))
@@ -86,12 +99,12 @@ impl World {
 
     /// Goes on with what is made of the texts.
     fn reload(&mut self) {
-        let text = self.shared.dump().expect("a text");
-        let counts: Vec<_> = (0..self.shared.workers())
-            .map(|it| self.shared.worker(it).expect("calls"))
+        let text = self.recorded.dump().expect("a text");
+        let counts: Vec<_> = (0..self.recorded.workers())
+            .map(|it| self.recorded.worker(it).expect("calls"))
             .collect();
         let loaded = World::load(&text, &counts, self.keep).expect("a table");
-        assert_eq!(loaded.shared.dump().as_ref(), Ok(&text));
+        assert_eq!(loaded.recorded.dump().as_ref(), Ok(&text));
         let at = self.at;
         let tables = std::mem::take(&mut self.tables).into_iter().map(|it| {
             let again = it.dump().expect("a text");
@@ -119,7 +132,7 @@ impl World {
             return answer;
         }
         let ordinal = seat.ordinal().expect("an ordinal");
-        let entry = self.shared.entry(ordinal).expect("an entry");
+        let entry = self.recorded.entry(ordinal).expect("an entry");
         assert_eq!(
             (
                 entry.worker as usize,
@@ -135,7 +148,7 @@ impl World {
         } else {
             Err(Error::NoQuery)
         };
-        assert_eq!(self.shared.ask(entry.call), asked, "{line}");
+        assert_eq!(self.recorded.ask(entry.call), asked, "{line}");
         if let [_, by_value, by_method] = &mut self.tables[..] {
             assert_eq!(by_value.ask(entry.call), asked, "{line}");
             assert_eq!(by_value.would(entry.call).as_ref(), Ok(&entry.reply));
@@ -163,7 +176,7 @@ impl World {
         let (call, seat) = (call_on(line), &mut self.seats[self.at]);
         let told = seat.told(call).expect("a call");
         let ordinal = seat.ordinal().expect("an ordinal");
-        let entry = self.shared.entry(ordinal).expect("an entry");
+        let entry = self.recorded.entry(ordinal).expect("an entry");
         assert_eq!(
             (entry.worker as usize, entry.call, &entry.reply),
             (self.at, call, &told.reply)
@@ -177,12 +190,11 @@ impl World {
 
     /// What a question tells, which is the same of each table; none for a step that is no question.
     fn question(&self, word: &str, numbers: &[u64]) -> Option<String> {
-        let told: String = question!(self.shared, word, numbers);
+        let told = question(self.recorded, word, numbers);
         for table in &self.tables {
-            let other: String = question!(table, word, numbers);
-            assert_eq!(other, told, "{word} {numbers:?}");
+            assert_eq!(question(table, word, numbers), told, "{word} {numbers:?}");
         }
-        Some(told)
+        told
     }
 
     /// What a step of a history tells.
@@ -193,22 +205,23 @@ impl World {
             .collect();
         let told = match (words[0], &numbers[..]) {
             ("counts", []) => self
-                .shared
+                .recorded
                 .counts()
                 .map(|it| format!("{} {}", it.first_kept, it.recorded)),
-            ("worker", [it]) => self.shared.worker(*it as u32).map(|it| it.to_string()),
+            ("worker", [it]) => self.recorded.worker(*it as u32).map(|it| it.to_string()),
             ("entry", [it]) => self
-                .shared
+                .recorded
                 .entry(*it)
                 .map(|it| format!("{} {}: {}", it.worker, it.call.line(), say(&it.reply))),
             ("read", [from, most]) => self
-                .shared
+                .recorded
                 .entries(*from, *most as usize)
                 .map(|it| it.len().to_string()),
-            ("checkpoint", []) => self.shared.checkpoint().map(|()| "DONE".to_owned()),
-            ("checkpoint_at", [seen]) => {
-                self.shared.checkpoint_at(*seen).map(|()| "DONE".to_owned())
-            }
+            ("checkpoint", []) => self.recorded.checkpoint().map(|()| "DONE".to_owned()),
+            ("checkpoint_at", [seen]) => self
+                .recorded
+                .checkpoint_at(*seen)
+                .map(|()| "DONE".to_owned()),
             _ => panic!("{words:?}"),
         };
         told.unwrap_or_else(|fault| say_error(&fault))
@@ -216,9 +229,9 @@ impl World {
 
     fn text(&mut self, name: &str) -> String {
         let told = match name {
-            "list" => self.shared.list(),
-            "dump" => self.shared.dump(),
-            _ => self.shared.opening(),
+            "list" => self.recorded.list(),
+            "dump" => self.recorded.dump(),
+            _ => self.recorded.opening(),
         };
         for table in &mut self.tables {
             assert!(
@@ -235,28 +248,29 @@ impl World {
 
     /// The same calls on a second table; a change stops at its place.
     fn replay(&self, change: Option<(&str, usize)>) {
-        let mut saved = self.shared.entries(0, usize::MAX).expect("entries");
-        let again = Shared::open(self.shared.pid_max(), self.shared.workers()).expect("a table");
+        let mut saved = self.recorded.entries(0, usize::MAX).expect("entries");
+        let options = kept(0).pid_max(self.recorded.pid_max());
+        let again = options.workers(self.recorded.workers()).open();
+        let again = again.expect("a table");
         let Some((what, place)) = change else {
             assert_eq!(again.replay(&saved), Ok(()));
             assert_eq!(
                 (again.counts(), again.list()),
-                (self.shared.counts(), self.shared.list())
+                (self.recorded.counts(), self.recorded.list())
             );
             return;
         };
         let error = match what {
             "differs" => Error::Differs,
-            _ => Error::Argument(Argument {
-                name: "worker",
-                value: self.shared.workers().into(),
-                least: 0,
-                most: u64::from(self.shared.workers()) - 1,
-            }),
+            _ => {
+                let workers = self.recorded.workers();
+                let outside = Argument::outside("worker", workers, 0u32, workers - 1);
+                Error::Argument(outside.expect("no worker"))
+            }
         };
         match error {
             Error::Differs => saved[place].reply = Reply::Done,
-            _ => saved[place].worker = self.shared.workers(),
+            _ => saved[place].worker = self.recorded.workers(),
         }
         assert_eq!(again.replay(&saved), Err(ReplayError { place, error }));
         assert_eq!(
@@ -271,9 +285,10 @@ impl World {
 const QUERIES: [&str; 7] = ["getpid", "nspid", "getppid", "count", "getpgid", "getsid", "next"];
 
 #[rustfmt::skip]
-fn by_its_method(table: &mut dyn Calls, call: Call) -> Result<Reply, Error> {
+fn by_its_method(table: &Table, call: Call) -> Result<Reply, Error> {
     match call {
-        Call::Fork { caller, new_space } => table.fork(caller, new_space).map(Reply::Forked),
+        Call::Fork { caller, new_space: false } => table.fork(caller).map(Reply::Forked),
+        Call::Fork { caller, new_space: true } => table.fork_new(caller).map(Reply::Forked),
         Call::Getpid { caller } => table.getpid(caller).map(Reply::Number),
         Call::Nspid { caller, number } => table.nspid(caller, number).map(Reply::Levels),
         Call::Exec { caller } => table.exec(caller).map(|()| Reply::Done),
@@ -396,13 +411,9 @@ fn say_effect(effect: &Effect) -> String {
 
 /// The call on a line, by the entry of another table.
 fn call_on(line: &str) -> Call {
-    let shared = Shared::open(32768, 1).expect("a table");
-    shared
-        .seat()
-        .expect("a seat")
-        .line(line)
-        .expect("an answer");
-    shared.entry(0).expect("an entry").call
+    let table = kept(0).open().expect("a table");
+    table.line(line).expect("an answer");
+    table.entry(0).expect("an entry").call
 }
 
 fn say_task(it: &Stat) -> String {
@@ -549,7 +560,7 @@ fn make_open(
 
 fn end(world: &Option<World>) {
     if let Some(world) = world {
-        if world.is_whole && world.shared.counts().expect("counts").first_kept == 0 {
+        if world.is_whole && world.recorded.counts().expect("counts").first_kept == 0 {
             world.replay(None);
         }
     }

@@ -1,6 +1,5 @@
 //! The table of a service, `pidtabd`, by its socket: requests of RESP, and their answers.
-use crate::calls::sealed::Sealed;
-use crate::{Argument, Call, Calls, Child, Ended, Error, Listing, Reaped, Refusal, Reply};
+use crate::{Argument, Call, Child, Ended, Error, Kind, Listing, Reaped, Refusal, Reply, Which};
 use std::io::{self, BufRead, BufReader, Read, Write};
 use std::os::unix::net::UnixStream;
 use std::path::Path;
@@ -19,10 +18,10 @@ const NO_SERVICE: &str = "what answers is no service of pidtab";
 /// A connection to a service, `pidtabd`: its calls are those of the one table of all clients, and are saved there as the service is told to save.
 ///
 /// ```no_run
-/// use pidtab::{Calls, Connected, Error};
+/// use pidtab::{Connected, Error};
 ///
 /// let mut table = Connected::connect("unix:/run/pidtab.sock")?;
-/// let child = table.fork(1, true)?;
+/// let child = table.fork_new(1)?;
 /// match table.exit(child.root, 7) {
 ///     Err(Error::NotServed) => println!("{}", table.why()),
 ///     done => done?,
@@ -168,10 +167,12 @@ impl fmt::Debug for Connected {
     }
 }
 
-impl Sealed for Connected {}
-
-impl Calls for Connected {
-    fn call(&mut self, call: Call) -> Result<Reply, Error> {
+impl Connected {
+    /// As [`Table::call`](crate::Table::call).
+    ///
+    /// # Errors
+    /// `NoMemory`, `Spent`, `NotServed`, `Disconnected`.
+    pub fn call(&mut self, call: Call) -> Result<Reply, Error> {
         let line = call.line();
         let words: Vec<_> = ["PIDTAB.CALL"].into_iter().chain(line.split(' ')).collect();
         let answer = match self.exchange(&words)? {
@@ -180,9 +181,15 @@ impl Calls for Connected {
         };
         reply_of(call, answer).ok_or_else(|| self.end(NO_SERVICE))
     }
-}
 
-impl Connected {
+    fn made<T>(
+        &mut self,
+        call: Call,
+        read: impl FnOnce(Reply) -> Result<T, Reply>,
+    ) -> Result<T, Error> {
+        call.told(self.call(call)?, read)
+    }
+
     /// A refusal of the table, or why the call was not made.
     fn refused(&mut self, said: String) -> Result<Reply, Error> {
         match (read_refusal(&said), said.as_str()) {
@@ -192,6 +199,53 @@ impl Connected {
             _ => Err(self.not_served(said)),
         }
     }
+}
+
+/// The calls, of the table of the service.
+#[rustfmt::skip]
+impl Connected {
+    // Written by tools/interface: methods.
+    /// As [`Table::fork`](crate::Table::fork), with its errors.
+    pub fn fork(&mut self, caller: u32) -> Result<Child, Error> { self.made(Call::Fork { caller, new_space: false }, Reply::child) }
+    /// As [`Table::fork_new`](crate::Table::fork_new), with its errors.
+    pub fn fork_new(&mut self, caller: u32) -> Result<Child, Error> { self.made(Call::Fork { caller, new_space: true }, Reply::child) }
+    /// As [`Table::getpid`](crate::Table::getpid), with its errors.
+    pub fn getpid(&mut self, caller: u32) -> Result<u32, Error> { self.made(Call::Getpid { caller }, Reply::number) }
+    /// As [`Table::nspid`](crate::Table::nspid), with its errors.
+    pub fn nspid(&mut self, caller: u32, number: u32) -> Result<Vec<u32>, Error> { self.made(Call::Nspid { caller, number }, Reply::levels) }
+    /// As [`Table::exec`](crate::Table::exec), with its errors.
+    pub fn exec(&mut self, caller: u32) -> Result<(), Error> { self.made(Call::Exec { caller }, Reply::nothing) }
+    /// As [`Table::exit`](crate::Table::exit), with its errors.
+    pub fn exit(&mut self, caller: u32, status: u8) -> Result<(), Error> { self.made(Call::Exit { caller, status }, Reply::nothing) }
+    /// As [`Table::wait`](crate::Table::wait), with its errors.
+    pub fn wait(&mut self, caller: u32, which: Which) -> Result<Option<Reaped>, Error> { self.made(Call::Wait { caller, which }, Reply::reaped) }
+    /// As [`Table::getppid`](crate::Table::getppid), with its errors.
+    pub fn getppid(&mut self, caller: u32) -> Result<u32, Error> { self.made(Call::Getppid { caller }, Reply::number) }
+    /// As [`Table::setpgid`](crate::Table::setpgid), with its errors.
+    pub fn setpgid(&mut self, caller: u32, pid: i32, pgid: i32) -> Result<(), Error> { self.made(Call::Setpgid { caller, pid, pgid }, Reply::nothing) }
+    /// As [`Table::setsid`](crate::Table::setsid), with its errors.
+    pub fn setsid(&mut self, caller: u32) -> Result<u32, Error> { self.made(Call::Setsid { caller }, Reply::number) }
+    /// As [`Table::mk`](crate::Table::mk), with its errors.
+    pub fn mk(&mut self, parent: u64) -> Result<u64, Error> { self.made(Call::Mk { parent }, Reply::control) }
+    /// As [`Table::rm`](crate::Table::rm), with its errors.
+    pub fn rm(&mut self, id: u64) -> Result<(), Error> { self.made(Call::Rm { id }, Reply::nothing) }
+    /// As [`Table::limit`](crate::Table::limit), with its errors.
+    pub fn limit(&mut self, id: u64, limit: Option<u32>) -> Result<(), Error> { self.made(Call::Limit { id, limit }, Reply::nothing) }
+    /// As [`Table::move_task`](crate::Table::move_task), with its errors.
+    pub fn move_task(&mut self, task: u32, id: u64) -> Result<(), Error> { self.made(Call::Move { task, id }, Reply::nothing) }
+    /// As [`Table::count`](crate::Table::count), with its errors.
+    pub fn count(&mut self, id: u64) -> Result<u64, Error> { self.made(Call::Count { id }, Reply::counted) }
+    /// As [`Table::getpgid`](crate::Table::getpgid), with its errors.
+    pub fn getpgid(&mut self, caller: u32, pid: u32) -> Result<u32, Error> { self.made(Call::Getpgid { caller, pid }, Reply::number) }
+    /// As [`Table::getsid`](crate::Table::getsid), with its errors.
+    pub fn getsid(&mut self, caller: u32, pid: u32) -> Result<u32, Error> { self.made(Call::Getsid { caller, pid }, Reply::number) }
+    /// As [`Table::next`](crate::Table::next), with its errors.
+    pub fn next(&mut self, caller: u32, kind: Kind, from: u32) -> Result<Option<u32>, Error> { self.made(Call::Next { caller, kind, from }, Reply::next_one) }
+    /// As [`Table::join`](crate::Table::join), with its errors.
+    pub fn join(&mut self, caller: u32, number: u32) -> Result<(), Error> { self.made(Call::Join { caller, number }, Reply::nothing) }
+    /// As [`Table::subreaper`](crate::Table::subreaper), with its errors.
+    pub fn subreaper(&mut self, caller: u32, on: bool) -> Result<(), Error> { self.made(Call::Subreaper { caller, on }, Reply::nothing) }
+    // The end of methods.
 }
 
 /// An answer of RESP.
@@ -451,7 +505,7 @@ mod tests {
             assert_eq!(table.position(), Err(Error::Disconnected));
         }
         let mut table = sent(b"$2\r\nOK\r\n");
-        assert_eq!(table.fork(1, false), Err(Error::Disconnected));
+        assert_eq!(table.fork(1), Err(Error::Disconnected));
     }
 
     /// Arrays in arrays end after eight.
@@ -468,9 +522,9 @@ mod tests {
     #[test]
     fn who_is_turned_away_is_told_why() {
         let mut table = sent(b"-ERR max number of clients reached\r\n");
-        assert_eq!(table.fork(1, false), Err(Error::NotServed));
+        assert_eq!(table.fork(1), Err(Error::NotServed));
         assert_eq!(table.why(), "ERR max number of clients reached");
-        assert_eq!(table.fork(1, false), Err(Error::Disconnected));
+        assert_eq!(table.fork(1), Err(Error::Disconnected));
         assert!(table.set_timeout(None).is_err());
     }
 

@@ -112,7 +112,7 @@ pub(crate) fn told(
 #[cfg(test)]
 mod tests {
     use super::*;
-    use crate::{Call, Calls, Reaped, Refusal, Shared, Table, Which};
+    use crate::{Call, Keep, Reaped, Refusal, Table, Which};
 
     fn exit(caller: u32, status: u8) -> Call {
         Call::Exit { caller, status }
@@ -172,9 +172,9 @@ mod tests {
 
     /// That each of these calls is told so, of a table and of a seat.
     fn are_told(lines: &[&str], calls: &[(Call, Reply, &[Effect])]) {
-        let mut table = Table::open(32768).expect("a table");
-        let shared = Shared::open(32768, 1).expect("a table");
-        let mut seat = shared.seat().expect("a seat");
+        let table = Table::open(32768).expect("a table");
+        let recorded = Table::options().keep(Keep::All).open().expect("a table");
+        let mut seat = recorded.seat().expect("a seat");
         for line in lines {
             table.line(line).expect("a call");
             seat.line(line).expect("a call");
@@ -189,7 +189,7 @@ mod tests {
         }
         let made = (lines.len() + calls.len()) as u64;
         assert_eq!(seat.ordinal(), Some(made - 1));
-        assert_eq!(shared.list(), table.list());
+        assert_eq!(recorded.list(), table.list());
     }
 
     /// 2 is the init of the namespace 1, in which are its child 3 and the children 4 and 5 of that. 5 is the init of the namespace 4 within.
@@ -280,11 +280,11 @@ mod tests {
     fn more_than_there_is_room_for_at_first() {
         // Of each task there may be two effects, and one of their group and of their session.
         for count in [SHORT / 2 - 3, SHORT / 2 - 2, SHORT / 2 - 1, 5 * SHORT] {
-            let mut table = Table::open(32768).expect("a table");
-            table.fork(1, false).expect("a child");
+            let table = Table::open(32768).expect("a table");
+            table.fork(1).expect("a child");
             let mut wanted = vec![ended(2, 7)];
             for _ in 0..count {
-                let child = table.fork(2, false).expect("a child");
+                let child = table.fork(2).expect("a child");
                 wanted.push(adopted(child.root, 1));
             }
             assert_eq!(table.told(exit(2, 7)).map(|it| it.effects), Ok(wanted));
@@ -321,21 +321,22 @@ mod tests {
     #[test]
     fn beside_threads_that_fork() {
         const FORKS: usize = 100;
-        let shared = Shared::open(5000, 4).expect("a table");
-        let mut seat = shared.seat().expect("a seat");
-        let parent = seat.fork(1, false).expect("a child").root;
+        let options = Table::options().pid_max(5000).keep(Keep::All).workers(4);
+        let table = options.threads().open().expect("a table");
+        let mut seat = table.seat().expect("a seat");
+        let parent = seat.fork(1).expect("a child").root;
         let (told, mut children) = std::thread::scope(|scope| {
             let forks: Vec<_> = (0..3)
                 .map(|_| {
                     scope.spawn(|| {
-                        let mut seat = shared.seat().expect("a seat");
-                        let forked = std::iter::repeat_with(|| seat.fork(parent, false));
+                        let mut seat = table.seat().expect("a seat");
+                        let forked = std::iter::repeat_with(|| seat.fork(parent));
                         let made = forked.map_while(Result::ok).map(|it| it.root);
                         made.collect::<Vec<_>>()
                     })
                 })
                 .collect();
-            while shared.counts().expect("counts").recorded < FORKS as u64 {
+            while table.counts().expect("counts").recorded < FORKS as u64 {
                 std::thread::yield_now();
             }
             let told = seat.told(exit(parent, 3));

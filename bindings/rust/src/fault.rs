@@ -140,15 +140,15 @@ impl fmt::Display for Refusal {
 /// As an [`io::Error`] it has the kind that the kernel's error has, and holds this one:
 ///
 /// ```
-/// use pidtab::{Calls, Table};
+/// use pidtab::Table;
 /// use std::io;
 ///
-/// fn remove(table: &mut Table) -> io::Result<()> {
+/// fn remove(table: &Table) -> io::Result<()> {
 ///     table.rm(7)?;
 ///     Ok(())
 /// }
 ///
-/// let fault = remove(&mut Table::open(32768)?).unwrap_err();
+/// let fault = remove(&Table::open(32768)?).unwrap_err();
 /// assert_eq!(fault.kind(), io::ErrorKind::NotFound);
 /// assert_eq!(fault.to_string(), "rm 7: no-control (errno 2)");
 /// # Ok::<(), io::Error>(())
@@ -165,7 +165,7 @@ pub enum Error {
         /// The call; none for a read that is no call, as `stat`, and for one that was made by another.
         call: Option<Call>,
     },
-    /// There was no memory: for a table, a fork, a new control group or a list; for any call of a [`Seat`](crate::Seat), as its entry takes
+    /// There was no memory: for a table, a fork, a new control group or a list; where a history is kept for any call, as its entry takes
     /// memory; for entries that are read, and for a cut.
     NoMemory,
     /// The table has made 2^64 - 2 calls.
@@ -178,19 +178,21 @@ pub enum Error {
     NoSeat,
     /// What a saved history has is outside its range, or what is written there.
     OutOfRange,
-    /// A call that another thread began is under way. A table has one owner, and a record has a lock, so this comes in the forked child of a
-    /// process with threads alone, where that thread is not.
+    /// A function that another thread began is under way, of a table that was opened without `threads`; or this thread has the lock by
+    /// [`Table::lock`](crate::Table::lock), and what waits for another thread would wait for ever.
     Busy,
     /// No entry with the ordinal is kept: it was cut away, or is not reached yet.
     NotKept,
     /// Another number of calls was recorded by now.
     Again,
-    /// The table keeps no history. No function of this package asks such a table for it.
+    /// The table keeps no history: [`Options::keep`](crate::Options::keep) has it keep one.
     NoHistory,
+    /// The table is one thread's: [`Options::threads`](crate::Options::threads) gives it a lock.
+    NoThreads,
     /// A reply is not the saved one.
     Differs,
     /// As many calls are recorded and not saved as the bound lets there be, and the saver has failed or ended:
-    /// [`Shared::wait_saved`](crate::Shared::wait_saved) says why.
+    /// [`Table::wait_saved`](crate::Table::wait_saved) says why.
     Unsaved,
     /// The waits for calls were ended, and the call is not recorded.
     Ended,
@@ -239,7 +241,7 @@ impl Error {
     /// The number of Linux's errno, as [`io::Error::raw_os_error`] would have it: of a refusal the one that the kernel would give. `NotServed` has none.
     ///
     /// ```
-    /// use pidtab::{Calls, Table};
+    /// use pidtab::Table;
     ///
     /// let fault = Table::open(32768)?.getpid(99).unwrap_err();
     /// assert_eq!(fault.raw_os_error(), Some(3)); // ESRCH
@@ -258,6 +260,7 @@ impl Error {
             Error::NotKept => raw::NOT_KEPT,
             Error::Again => raw::AGAIN,
             Error::NoHistory => raw::NO_HISTORY,
+            Error::NoThreads => raw::NO_THREADS,
             Error::Differs => raw::DIFFERS,
             Error::Unsaved | Error::Ended | Error::Disconnected => raw::ENDED,
             Error::NotServed => return None,
@@ -268,7 +271,7 @@ impl Error {
     /// Why the table refuses a call; none for an error that is no refusal.
     ///
     /// ```
-    /// use pidtab::{Calls, Refusal, Table};
+    /// use pidtab::{Refusal, Table};
     ///
     /// let fault = Table::open(32768)?.getpid(99).unwrap_err();
     /// assert_eq!(fault.refusal(), Some(Refusal::NoCaller));
@@ -310,7 +313,8 @@ impl fmt::Display for Error {
             Error::Busy => to.write_str("busy"),
             Error::NotKept => to.write_str("no entry with the ordinal is kept"),
             Error::Again => to.write_str("another number of calls was recorded by now"),
-            Error::NoHistory => to.write_str("the table keeps no history"),
+            Error::NoHistory => to.write_str("this table keeps no history: open it with keep"),
+            Error::NoThreads => to.write_str("this table is one thread's: open it with threads"),
             Error::Differs => to.write_str("a reply is not the saved one"),
             Error::Unsaved => {
                 to.write_str("too many calls are not saved, and the saver has failed or ended")
@@ -337,7 +341,7 @@ impl From<Error> for io::Error {
             Error::Busy => kind_of(raw::BUSY as i32),
             Error::NotKept => kind_of(raw::NOT_KEPT as i32),
             Error::Again => kind_of(raw::AGAIN as i32),
-            Error::NoHistory => io::ErrorKind::Unsupported,
+            Error::NoHistory | Error::NoThreads => io::ErrorKind::Unsupported,
             Error::Differs => io::ErrorKind::InvalidData,
             Error::Unsaved | Error::Ended => io::ErrorKind::BrokenPipe,
             Error::Disconnected => io::ErrorKind::NotConnected,
@@ -385,7 +389,7 @@ pub enum LineError {
     Empty,
     /// It is no line of the script language.
     Bad,
-    /// There was no memory for a `fork` or a `mk`; of a [`Seat`](crate::Seat), for any call.
+    /// There was no memory for a `fork` or a `mk`; where a history is kept, for any call.
     NoMemory,
     /// The table has made 2^64 - 2 calls.
     Spent,
@@ -412,8 +416,8 @@ impl LineError {
 }
 
 impl LineError {
-    /// What a call was not made for, before its line was read.
-    pub(crate) fn of_bound(error: Error) -> LineError {
+    /// Why a call is not made, before its line is read.
+    pub(crate) fn of_change(error: Error) -> LineError {
         match error {
             Error::Unsaved => LineError::Unsaved,
             _ => LineError::Busy,
@@ -619,6 +623,7 @@ mod tests {
             (Error::NotKept, 2),
             (Error::Again, 11),
             (Error::NoHistory, 95),
+            (Error::NoThreads, 37),
             (Error::Differs, 74),
             (Error::Unsaved, 32),
             (Error::Ended, 32),

@@ -1,5 +1,5 @@
 //! Names of tasks, which are outside of the table.
-use crate::{raw, Call, Error, Record, Reply, Shared, Table};
+use crate::{raw, Call, Error, Reply, Table};
 use std::collections::HashMap;
 
 /// The root init, which sees all tasks by their root numbers.
@@ -19,21 +19,9 @@ impl Labels {
             .map(|(root, label)| (*root, label.as_str()))
     }
 
-    /// Notes the new task that a reply may tell.
-    pub(crate) fn replied(&mut self, reply: &Reply) {
-        if let Reply::Forked(child) = reply {
-            self.by_root.remove(&child.root);
-        }
-    }
-
-    /// The same of an answer, as `child 2 root 3`.
-    pub(crate) fn answered(&mut self, answer: &str) {
-        if self.by_root.is_empty() || !answer.starts_with("child ") {
-            return;
-        }
-        if let Some(Ok(root)) = answer.rsplit(' ').next().map(str::parse) {
-            self.by_root.remove(&root);
-        }
+    /// Takes the label away of who had the number before.
+    pub(crate) fn forget(&mut self, root: u32) {
+        self.by_root.remove(&root);
     }
 
     /// Notes calls that were made again. Where they stopped, nobody is told which number a fork with another reply has drawn.
@@ -42,9 +30,10 @@ impl Labels {
             self.by_root.clear();
         }
         if !self.by_root.is_empty() {
-            for it in entries {
-                self.replied(&Reply::of(&it.reply));
-            }
+            let new = entries
+                .iter()
+                .filter_map(|it| new_task(&Reply::of(&it.reply)));
+            new.for_each(|root| self.forget(root));
         }
     }
 
@@ -58,15 +47,29 @@ impl Labels {
     }
 }
 
+/// The root number of the new task that a reply may tell.
+pub(crate) fn new_task(reply: &Reply) -> Option<u32> {
+    match reply {
+        Reply::Forked(child) => Some(child.root),
+        _ => None,
+    }
+}
+
+/// The same of an answer, as `child 2 root 3`.
+pub(crate) fn new_task_of(answer: &str) -> Option<u32> {
+    let numbers = answer.strip_prefix("child ")?;
+    numbers.rsplit(' ').next()?.parse().ok()
+}
+
 impl Table {
     /// Names a task, by its root number, in [`Table::listing`] and in its JSON; an empty label takes the name away. It is no call: the table, its
-    /// text and its history know nothing of it. The name goes when the number is another task's.
+    /// text and its history know nothing of it. The name goes when the number is another task's; a replay that stops takes all names away.
     ///
     /// ```
-    /// use pidtab::{Calls, Table};
+    /// use pidtab::Table;
     ///
-    /// let mut table = Table::open(32768)?;
-    /// let child = table.fork(1, true)?;
+    /// let table = Table::open(32768)?;
+    /// let child = table.fork_new(1)?;
     /// table.label(child.root, "nginx")?;
     /// assert_eq!(table.listing()?.tasks[1].label.as_deref(), Some("nginx"));
     /// # Ok::<(), pidtab::Error>(())
@@ -74,34 +77,15 @@ impl Table {
     ///
     /// # Errors
     /// `Refused` as `NoTask`; `BadLabel`, `Busy`.
-    pub fn label(&mut self, task: u32, label: &str) -> Result<(), Error> {
-        check(label)?;
-        let found = self.ask(find(task))?;
-        self.labels.put(root_of(task, &found)?, label);
-        Ok(())
-    }
-}
-
-impl Record {
-    /// As [`Table::label`]: names a task in [`Record::listing`]. A replay that stops takes all names away.
-    ///
-    /// # Errors
-    /// `Refused` as `NoTask`; `BadLabel`, `Busy`.
-    pub fn label(&mut self, task: u32, label: &str) -> Result<(), Error> {
-        check(label)?;
-        let found = self.ask(find(task))?;
-        self.labels.put(root_of(task, &found)?, label);
-        Ok(())
-    }
-}
-
-impl Shared {
-    /// As [`Record::label`]: names a task for all who list the table.
-    ///
-    /// # Errors
-    /// `Refused` as `NoTask`; `BadLabel`, `Busy`.
     pub fn label(&self, task: u32, label: &str) -> Result<(), Error> {
-        self.lock().label(task, label)
+        check(label)?;
+        // No fork takes the number meanwhile.
+        let _query = self.for_read();
+        let mut found = raw::Reply::BLANK;
+        Error::unless_done(self.raw.ask(&find(task).numbers(), &mut found))?;
+        let root = root_of(task, &Reply::of(&found))?;
+        self.labels().put(root, label);
+        Ok(())
     }
 }
 
@@ -140,7 +124,7 @@ fn is_unprintable(letter: char) -> bool {
 #[cfg(test)]
 mod tests {
     use super::*;
-    use crate::{Calls, Listing, Refusal, Which};
+    use crate::{Child, Keep, Listing, Refusal, Which};
 
     /// The last number below the least `pid_max`: the search for a number begins there again.
     const LAST: u32 = 300;
@@ -159,9 +143,9 @@ mod tests {
     };
 
     /// Forks children of the root init that end, up to the last number, which then comes again and again.
-    fn go_up(table: &mut impl Calls) {
+    fn go_up(table: &Table) {
         loop {
-            let child = table.fork(1, false).expect("a child").root;
+            let child = table.fork(1).expect("a child").root;
             if child == LAST {
                 return;
             }
@@ -172,8 +156,8 @@ mod tests {
 
     #[test]
     fn a_label_is_no_part_of_the_table() {
-        let mut table = Table::open(32768).expect("a table");
-        table.fork(1, false).expect("a child");
+        let table = Table::open(32768).expect("a table");
+        table.fork(1).expect("a child");
         let text = table.dump();
         table.label(2, "x").expect("a label");
         table.label(2, "web \"1\"").expect("a label");
@@ -187,9 +171,9 @@ mod tests {
 
     #[test]
     fn a_label_goes_with_its_task() {
-        let mut table = Table::open(301).expect("a table");
-        go_up(&mut table);
-        let forks: [fn(&mut Table); 3] = [
+        let table = Table::open(301).expect("a table");
+        go_up(&table);
+        let forks: [fn(&Table); 3] = [
             |it| drop(it.call(FORK)),
             |it| drop(it.told(FORK)),
             |it| drop(it.line("fork 1")),
@@ -199,51 +183,47 @@ mod tests {
             table.exit(LAST, 0).expect("an end");
             assert_eq!(labels_of(table.listing()), [(LAST, "short".into())]);
             table.wait(1, Which::Any).expect("a wait");
-            fork(&mut table);
+            fork(&table);
             assert!(table.getpid(LAST).is_ok());
             assert_eq!(labels_of(table.listing()), []);
         }
     }
 
     #[test]
-    fn a_label_of_a_table_that_threads_share() {
-        let shared = Shared::open(301, 2).expect("a table");
-        let mut seat = shared.seat().expect("a seat");
-        go_up(&mut seat);
-        let last = shared.counts().expect("counts").recorded - 1;
-        let saved = shared.entries(last, 1).expect("the fork");
-        for way in ["call", "told", "line", "replay"] {
-            shared.label(LAST, "short").expect("a label");
+    fn a_label_of_a_table_with_a_history() {
+        let options = Table::options().pid_max(301).keep(Keep::All).workers(2);
+        let table = options.threads().open().expect("a table");
+        let mut seat = table.seat().expect("a seat");
+        go_up(&table);
+        let last = table.counts().expect("counts").recorded - 1;
+        let saved = table.entries(last, 1).expect("the fork");
+        for way in ["call", "told", "line", "calls", "fork_at", "replay"] {
+            table.label(LAST, "short").expect("a label");
             seat.exit(LAST, 0).expect("an end");
-            assert_eq!(labels_of(shared.listing()), [(LAST, "short".into())]);
+            assert_eq!(labels_of(table.listing()), [(LAST, "short".into())]);
             seat.wait(1, Which::Any).expect("a wait");
+            let (number, root) = (LAST, LAST);
             match way {
-                "call" => drop(seat.fork(1, false)),
+                "call" => drop(seat.fork(1)),
                 "told" => drop(seat.told(FORK)),
                 "line" => drop(seat.line("fork 1")),
-                _ => shared.replay(&saved).expect("the same fork"),
+                "calls" => drop(seat.calls(&[FORK], &mut Vec::new())),
+                "fork_at" => drop(seat.fork_at(1, Child { number, root })),
+                _ => table.replay(&saved).expect("the same fork"),
             }
             assert!(seat.getpid(LAST).is_ok(), "{way}");
-            assert_eq!(labels_of(shared.listing()), [], "{way}");
+            assert_eq!(labels_of(table.listing()), [], "{way}");
         }
-        shared.label(1, "init").expect("a label");
-        assert!(shared.replay(&saved).is_err());
-        assert_eq!(labels_of(shared.lock().listing()), []);
-        assert_eq!(shared.label(1, "a\nb"), Err(Error::BadLabel));
-        let (errno, refusal) = (3, Refusal::NoTask);
-        assert_eq!(
-            shared.label(9, "x"),
-            Err(Error::Refused {
-                errno,
-                refusal,
-                call: None
-            })
-        );
+        let held = table.lock().expect("the lock");
+        held.label(1, "init").expect("a label");
+        assert_eq!(labels_of(held.listing()), [(1, "init".into())]);
+        assert!(held.replay(&saved).is_err());
+        assert_eq!(labels_of(held.listing()), []);
     }
 
     #[test]
     fn what_is_no_label_and_who_is_nobody() {
-        let mut table = Table::open(32768).expect("a table");
+        let table = Table::open(32768).expect("a table");
         for label in ["a\nb", "\u{7}", "\u{2028}", "\u{9b}1m"] {
             assert_eq!(table.label(1, label), Err(Error::BadLabel), "{label:?}");
         }

@@ -29,7 +29,7 @@ pub(crate) fn all(
 #[cfg(test)]
 mod tests {
     use super::*;
-    use crate::{Calls, Refusal, Table};
+    use crate::{Refusal, Table};
 
     fn open() -> Table {
         Table::open(32768).expect("a table")
@@ -38,12 +38,12 @@ mod tests {
     /// 3 is 1 of a new namespace, and its child 4 is 2 there. 2 leads a session, of which is its child 5, a zombie.
     #[test]
     fn each_kind() {
-        let mut table = open();
-        table.fork(1, false).expect("a child");
-        table.fork(1, true).expect("a child");
-        table.fork(3, false).expect("a child");
+        let table = open();
+        table.fork(1).expect("a child");
+        table.fork_new(1).expect("a child");
+        table.fork(3).expect("a child");
         table.setsid(2).expect("a session");
-        table.fork(2, false).expect("a child");
+        table.fork(2).expect("a child");
         table.exit(5, 0).expect("an end");
         for (caller, number, children) in [
             (1, 0, &[2, 3][..]),
@@ -97,7 +97,7 @@ mod tests {
     /// The control group 2 is in 1. 3 is the init of a namespace, and its child 4 is 2 there. 2 and 4 are in 1, 5 in 2, and 6 is a zombie there.
     #[test]
     fn of_control_groups() {
-        let mut table = open();
+        let table = open();
         assert_eq!((table.mk(0), table.mk(1)), (Ok(1), Ok(2)));
         let lines = "fork 1,fork 1 new,fork 3,move 2 1,move 4 1,fork 1,move 5 2,fork 5,exit 6 0";
         for line in lines.split(',') {
@@ -132,12 +132,12 @@ mod tests {
 
     #[test]
     fn more_than_there_is_room_for_at_first() {
-        let mut table = open();
+        let table = open();
         for count in 0..3 * SHORT as u32 {
             let children: Vec<_> = (2..count + 2).collect();
             assert_eq!(table.control_tasks(1, 0, 2).as_ref(), Ok(&children));
             assert_eq!(table.children(1, 0, 0), Ok(children));
-            table.fork(1, false).expect("a child");
+            table.fork(1).expect("a child");
         }
     }
 

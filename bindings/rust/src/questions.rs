@@ -1,8 +1,8 @@
 //! What may be asked of a table and changes nothing. None of it is a call: it uses no stamp, and is not recorded.
-use crate::{page, raw, space, Call, Error, Record, Reply, Shared, SpaceStat, Stat, Table};
+use crate::{page, raw, space, Call, Error, Reply, SpaceStat, Stat, Table};
 
 impl Table {
-    // Written by tools/interface: questions of a table.
+    // Written by tools/interface: questions.
     /// Answers a query as its call would be answered, refusals too. Nothing changes, and it is not counted. It takes no memory.
     ///
     /// [`Call`] says which are queries.
@@ -10,6 +10,7 @@ impl Table {
     /// # Errors
     /// `NoQuery` for each other call, `Busy`.
     pub fn ask(&self, query: Call) -> Result<Reply, Error> {
+        let _query = self.for_query();
         let mut reply = raw::Reply::BLANK;
         Error::unless_asked(self.raw.ask(&query.numbers(), &mut reply))?;
         Ok(Reply::of(&reply))
@@ -21,10 +22,10 @@ impl Table {
     /// It is no call, as [`Table::ask`] makes none.
     ///
     /// ```
-    /// use pidtab::{Calls, Table};
+    /// use pidtab::Table;
     ///
-    /// let mut table = Table::open(32768)?;
-    /// table.fork(1, true)?;
+    /// let table = Table::open(32768)?;
+    /// table.fork_new(1)?;
     /// let task = table.stat(1, 2)?;
     /// assert_eq!((task.numbers(), task.parent(), task.ended()), (&[2, 1][..], 1, None));
     /// # Ok::<(), pidtab::Error>(())
@@ -33,6 +34,7 @@ impl Table {
     /// # Errors
     /// `Refused` as `NoCaller`, `NoTask`; `Busy`.
     pub fn stat(&self, caller: u32, pid: u32) -> Result<Stat, Error> {
+        let _query = self.for_query();
         let mut task = raw::Task::BLANK;
         Stat::of(self.raw.stat(caller, pid, &mut task), task)
     }
@@ -44,10 +46,10 @@ impl Table {
     /// It is no call, as [`Table::ask`] makes none.
     ///
     /// ```
-    /// use pidtab::{Calls, Error, Table};
+    /// use pidtab::{Error, Table};
     ///
     /// /// Ends tasks, and first the children of each. The root init sees all by their root numbers.
-    /// fn end_all(table: &mut Table, tasks: Vec<u32>) -> Result<(), Error> {
+    /// fn end_all(table: &Table, tasks: Vec<u32>) -> Result<(), Error> {
     ///     for task in tasks {
     ///         let children = table.children(1, task, 0)?;
     ///         end_all(table, children)?;
@@ -58,13 +60,13 @@ impl Table {
     ///     Ok(())
     /// }
     ///
-    /// let mut table = Table::open(32768)?;
-    /// table.fork(1, false)?;
+    /// let table = Table::open(32768)?;
+    /// table.fork(1)?;
     /// table.setpgid(1, 2, 2)?;
-    /// table.fork(2, false)?;
+    /// table.fork(2)?;
     /// table.setsid(3)?;
     /// let members = table.group_members(1, 2, 0)?;
-    /// end_all(&mut table, members)?;
+    /// end_all(&table, members)?;
     /// assert_eq!(table.children(1, 0, 0)?, [2, 3]);
     /// assert!(table.stat(1, 3)?.ended().is_some());
     /// # Ok::<(), Error>(())
@@ -73,6 +75,7 @@ impl Table {
     /// # Errors
     /// `Refused` as `NoCaller`; `NoMemory`, `Busy`.
     pub fn children(&self, caller: u32, pid: u32, from: u32) -> Result<Vec<u32>, Error> {
+        let _query = self.for_query();
         page::all(|numbers, reply| {
             self.raw
                 .page(caller, raw::CHILDREN, pid, from, numbers, reply)
@@ -87,6 +90,7 @@ impl Table {
     /// # Errors
     /// `Refused` as `NoCaller`; `NoMemory`, `Busy`.
     pub fn group_members(&self, caller: u32, group: u32, from: u32) -> Result<Vec<u32>, Error> {
+        let _query = self.for_query();
         page::all(|numbers, reply| {
             self.raw
                 .page(caller, raw::GROUP_MEMBERS, group, from, numbers, reply)
@@ -99,16 +103,16 @@ impl Table {
     /// It is no call, as [`Table::ask`] makes none.
     ///
     /// ```
-    /// use pidtab::{Calls, Table};
+    /// use pidtab::Table;
     ///
     /// // 2 leads a session. Its child 3 is in the foreground, in a group of its own, and 5, a child of its child 4, leads another session.
-    /// let mut table = Table::open(32768)?;
-    /// table.fork(1, false)?;
+    /// let table = Table::open(32768)?;
+    /// table.fork(1)?;
     /// table.setsid(2)?;
-    /// table.fork(2, false)?;
-    /// table.fork(2, false)?;
+    /// table.fork(2)?;
+    /// table.fork(2)?;
     /// table.setpgid(2, 3, 3)?;
-    /// table.fork(4, false)?;
+    /// table.fork(4)?;
     /// table.setsid(5)?;
     /// assert_eq!(table.group_members(2, 3, 0)?, [3]);
     /// assert_eq!(table.session_members(2, 0, 0)?, [2, 3, 4]);
@@ -118,6 +122,7 @@ impl Table {
     /// # Errors
     /// `Refused` as `NoCaller`; `NoMemory`, `Busy`.
     pub fn session_members(&self, caller: u32, session: u32, from: u32) -> Result<Vec<u32>, Error> {
+        let _query = self.for_query();
         page::all(|numbers, reply| {
             self.raw
                 .page(caller, raw::SESSION_MEMBERS, session, from, numbers, reply)
@@ -131,7 +136,7 @@ impl Table {
     /// It is no call, as [`Table::ask`] makes none.
     ///
     /// ```
-    /// use pidtab::{Calls, Error, Table};
+    /// use pidtab::{Error, Table};
     ///
     /// /// Whom a kill of -1 reaches, by their root numbers: not the init, which is 1 there, and not the caller. To a zombie it does nothing.
     /// fn reached(table: &Table, caller: u32) -> Result<Vec<u32>, Error> {
@@ -146,11 +151,11 @@ impl Table {
     /// }
     ///
     /// // 2 is the init of a namespace, and 3, 4 and 5 are its children. 4 is a zombie, and 5 is the init of a namespace within it.
-    /// let mut table = Table::open(32768)?;
-    /// table.fork(1, true)?;
-    /// table.fork(2, false)?;
-    /// table.fork(2, false)?;
-    /// table.fork(2, true)?;
+    /// let table = Table::open(32768)?;
+    /// table.fork_new(1)?;
+    /// table.fork(2)?;
+    /// table.fork(2)?;
+    /// table.fork_new(2)?;
     /// table.exit(4, 0)?;
     /// assert_eq!(reached(&table, 1)?, [2, 3, 5]);
     /// assert_eq!(reached(&table, 3)?, [5]);
@@ -162,6 +167,7 @@ impl Table {
     /// # Errors
     /// `Refused` as `NoCaller`; `NoMemory`, `Busy`.
     pub fn namespace_members(&self, caller: u32, pid: u32, from: u32) -> Result<Vec<u32>, Error> {
+        let _query = self.for_query();
         page::all(|numbers, reply| {
             self.raw
                 .page(caller, raw::NAMESPACE_MEMBERS, pid, from, numbers, reply)
@@ -173,13 +179,13 @@ impl Table {
     /// It is no call, as [`Table::ask`] makes none.
     ///
     /// ```
-    /// use pidtab::{Calls, Table};
+    /// use pidtab::Table;
     ///
     /// // 2 is the init of a namespace, in which is its child 3, and 4 that of one within it.
-    /// let mut table = Table::open(32768)?;
-    /// table.fork(1, true)?;
-    /// table.fork(2, false)?;
-    /// table.fork(3, true)?;
+    /// let table = Table::open(32768)?;
+    /// table.fork_new(1)?;
+    /// table.fork(2)?;
+    /// table.fork_new(3)?;
     /// // Each namespace with its own tasks, from the root inwards. Where the init was reaped, nobody is left but zombies.
     /// let (mut told, mut spaces) = (Vec::new(), vec![0]);
     /// while let Some(id) = spaces.pop() {
@@ -195,6 +201,7 @@ impl Table {
     /// # Errors
     /// `Refused` as `NoCaller`; `NoMemory`, `Busy`.
     pub fn namespace_own(&self, caller: u32, pid: u32, from: u32) -> Result<Vec<u32>, Error> {
+        let _query = self.for_query();
         page::all(|numbers, reply| {
             self.raw
                 .page(caller, raw::NAMESPACE_OWN, pid, from, numbers, reply)
@@ -208,12 +215,12 @@ impl Table {
     /// It is no call, as [`Table::ask`] makes none.
     ///
     /// ```
-    /// use pidtab::{Calls, Table};
+    /// use pidtab::Table;
     ///
     /// // 2 is the init of a namespace, and 3 that of one within it, which ends.
-    /// let mut table = Table::open(32768)?;
-    /// table.fork(1, true)?;
-    /// table.fork(2, true)?;
+    /// let table = Table::open(32768)?;
+    /// table.fork_new(1)?;
+    /// table.fork_new(2)?;
     /// table.exit(3, 0)?;
     /// // The namespaces that it was in, from its own outwards.
     /// let (mut id, mut told) = (table.stat(1, 3)?.space(), Vec::new());
@@ -230,6 +237,7 @@ impl Table {
     /// # Errors
     /// `Busy`.
     pub fn space(&self, id: u64) -> Result<Option<SpaceStat>, Error> {
+        let _query = self.for_query();
         let mut space = raw::Space::BLANK;
         SpaceStat::of(self.raw.space(id, &mut space), space)
     }
@@ -242,11 +250,11 @@ impl Table {
     /// It is no call, as [`Table::ask`] makes none.
     ///
     /// ```
-    /// use pidtab::{Calls, Table};
+    /// use pidtab::Table;
     ///
-    /// let mut table = Table::open(32768)?;
-    /// table.fork(1, true)?;
-    /// table.fork(2, true)?;
+    /// let table = Table::open(32768)?;
+    /// table.fork_new(1)?;
+    /// table.fork_new(2)?;
     /// table.mk(0)?;
     /// assert_eq!(table.spaces_inside(0, 0)?, Some(vec![1]));
     /// assert_eq!(table.spaces_inside(1, 0)?, Some(vec![2]));
@@ -258,6 +266,7 @@ impl Table {
     /// # Errors
     /// `NoMemory`, `Busy`.
     pub fn spaces_inside(&self, id: u64, from: u64) -> Result<Option<Vec<u64>>, Error> {
+        let _query = self.for_query();
         space::inside(|ids, count| self.raw.inside(raw::SPACES, id, from, ids, count))
     }
 
@@ -271,6 +280,7 @@ impl Table {
     /// # Errors
     /// `NoMemory`, `Busy`.
     pub fn controls_inside(&self, id: u64, from: u64) -> Result<Option<Vec<u64>>, Error> {
+        let _query = self.for_query();
         space::inside(|ids, count| self.raw.inside(raw::CONTROLS, id, from, ids, count))
     }
 
@@ -280,7 +290,7 @@ impl Table {
     /// It is no call, as [`Table::ask`] makes none.
     ///
     /// ```
-    /// use pidtab::{Calls, Error, Table};
+    /// use pidtab::{Error, Table};
     ///
     /// /// The control group, and then each directly inside it, with their live tasks, as `systemd-cgls` has them.
     /// fn tree(table: &Table, id: u64, depth: usize) -> Result<String, Error> {
@@ -291,14 +301,14 @@ impl Table {
     ///     Ok(said)
     /// }
     ///
-    /// let mut table = Table::open(32768)?;
+    /// let table = Table::open(32768)?;
     /// let service = table.mk(0)?;
     /// let worker = table.mk(service)?;
-    /// table.fork(1, false)?;
+    /// table.fork(1)?;
     /// table.move_task(2, service)?;
-    /// table.fork(2, false)?;
-    /// table.fork(2, false)?;
-    /// table.fork(2, false)?;
+    /// table.fork(2)?;
+    /// table.fork(2)?;
+    /// table.fork(2)?;
     /// table.move_task(4, worker)?;
     /// // A zombie counts, and is no live task.
     /// table.exit(5, 0)?;
@@ -309,6 +319,7 @@ impl Table {
     /// # Errors
     /// `Refused` as `NoCaller`, `NoControl`; `NoMemory`, `Busy`.
     pub fn control_tasks(&self, caller: u32, control: u64, from: u32) -> Result<Vec<u32>, Error> {
+        let _query = self.for_query();
         page::all(|numbers, reply| {
             self.raw
                 .control_tasks(caller, control, from, numbers, reply)
@@ -323,233 +334,10 @@ impl Table {
     /// # Errors
     /// `Spent`, `Busy`.
     pub fn would(&self, call: Call) -> Result<Reply, Error> {
+        let _query = self.for_query();
         let mut reply = raw::Reply::BLANK;
         Error::unless_done(self.raw.would(&call.numbers(), &mut reply))?;
         Ok(Reply::of(&reply))
     }
-    // The end of questions of a table.
-}
-
-impl Record {
-    // Written by tools/interface: questions of a record.
-    /// As [`Table::ask`]. It is not recorded.
-    ///
-    /// # Errors
-    /// `NoQuery` for each other call, `Busy`.
-    pub fn ask(&self, query: Call) -> Result<Reply, Error> {
-        let mut reply = raw::Reply::BLANK;
-        Error::unless_asked(self.raw.ask(&query.numbers(), &mut reply))?;
-        Ok(Reply::of(&reply))
-    }
-
-    /// As [`Table::stat`]. It is not recorded.
-    ///
-    /// # Errors
-    /// `Refused` as `NoCaller`, `NoTask`; `Busy`.
-    pub fn stat(&self, caller: u32, pid: u32) -> Result<Stat, Error> {
-        let mut task = raw::Task::BLANK;
-        Stat::of(self.raw.stat(caller, pid, &mut task), task)
-    }
-
-    /// As [`Table::children`]. It is not recorded.
-    ///
-    /// # Errors
-    /// `Refused` as `NoCaller`; `NoMemory`, `Busy`.
-    pub fn children(&self, caller: u32, pid: u32, from: u32) -> Result<Vec<u32>, Error> {
-        page::all(|numbers, reply| {
-            self.raw
-                .page(caller, raw::CHILDREN, pid, from, numbers, reply)
-        })
-    }
-
-    /// As [`Table::group_members`]. It is not recorded.
-    ///
-    /// # Errors
-    /// `Refused` as `NoCaller`; `NoMemory`, `Busy`.
-    pub fn group_members(&self, caller: u32, group: u32, from: u32) -> Result<Vec<u32>, Error> {
-        page::all(|numbers, reply| {
-            self.raw
-                .page(caller, raw::GROUP_MEMBERS, group, from, numbers, reply)
-        })
-    }
-
-    /// As [`Table::session_members`]. It is not recorded.
-    ///
-    /// # Errors
-    /// `Refused` as `NoCaller`; `NoMemory`, `Busy`.
-    pub fn session_members(&self, caller: u32, session: u32, from: u32) -> Result<Vec<u32>, Error> {
-        page::all(|numbers, reply| {
-            self.raw
-                .page(caller, raw::SESSION_MEMBERS, session, from, numbers, reply)
-        })
-    }
-
-    /// As [`Table::namespace_members`]. It is not recorded.
-    ///
-    /// # Errors
-    /// `Refused` as `NoCaller`; `NoMemory`, `Busy`.
-    pub fn namespace_members(&self, caller: u32, pid: u32, from: u32) -> Result<Vec<u32>, Error> {
-        page::all(|numbers, reply| {
-            self.raw
-                .page(caller, raw::NAMESPACE_MEMBERS, pid, from, numbers, reply)
-        })
-    }
-
-    /// As [`Table::namespace_own`]. It is not recorded.
-    ///
-    /// # Errors
-    /// `Refused` as `NoCaller`; `NoMemory`, `Busy`.
-    pub fn namespace_own(&self, caller: u32, pid: u32, from: u32) -> Result<Vec<u32>, Error> {
-        page::all(|numbers, reply| {
-            self.raw
-                .page(caller, raw::NAMESPACE_OWN, pid, from, numbers, reply)
-        })
-    }
-
-    /// As [`Table::space`]. It is not recorded.
-    ///
-    /// # Errors
-    /// `Busy`.
-    pub fn space(&self, id: u64) -> Result<Option<SpaceStat>, Error> {
-        let mut space = raw::Space::BLANK;
-        SpaceStat::of(self.raw.space(id, &mut space), space)
-    }
-
-    /// As [`Table::spaces_inside`]. It is not recorded.
-    ///
-    /// # Errors
-    /// `NoMemory`, `Busy`.
-    pub fn spaces_inside(&self, id: u64, from: u64) -> Result<Option<Vec<u64>>, Error> {
-        space::inside(|ids, count| self.raw.inside(raw::SPACES, id, from, ids, count))
-    }
-
-    /// As [`Table::controls_inside`]. It is not recorded.
-    ///
-    /// # Errors
-    /// `NoMemory`, `Busy`.
-    pub fn controls_inside(&self, id: u64, from: u64) -> Result<Option<Vec<u64>>, Error> {
-        space::inside(|ids, count| self.raw.inside(raw::CONTROLS, id, from, ids, count))
-    }
-
-    /// As [`Table::control_tasks`]. It is not recorded.
-    ///
-    /// # Errors
-    /// `Refused` as `NoCaller`, `NoControl`; `NoMemory`, `Busy`.
-    pub fn control_tasks(&self, caller: u32, control: u64, from: u32) -> Result<Vec<u32>, Error> {
-        page::all(|numbers, reply| {
-            self.raw
-                .control_tasks(caller, control, from, numbers, reply)
-        })
-    }
-
-    /// As [`Table::would`]. It is not recorded.
-    ///
-    /// # Errors
-    /// `Spent`, `Busy`.
-    pub fn would(&self, call: Call) -> Result<Reply, Error> {
-        let mut reply = raw::Reply::BLANK;
-        Error::unless_done(self.raw.would(&call.numbers(), &mut reply))?;
-        Ok(Reply::of(&reply))
-    }
-    // The end of questions of a record.
-}
-
-impl Shared {
-    // Written by tools/interface: questions of a shared table.
-    /// As [`Table::ask`]. It is not recorded.
-    ///
-    /// # Errors
-    /// `NoQuery` for each other call, `Busy`.
-    pub fn ask(&self, query: Call) -> Result<Reply, Error> {
-        self.look().ask(query)
-    }
-
-    /// As [`Table::stat`]. It is not recorded.
-    ///
-    /// # Errors
-    /// `Refused` as `NoCaller`, `NoTask`; `Busy`.
-    pub fn stat(&self, caller: u32, pid: u32) -> Result<Stat, Error> {
-        self.look().stat(caller, pid)
-    }
-
-    /// As [`Table::children`]. It is not recorded.
-    ///
-    /// # Errors
-    /// `Refused` as `NoCaller`; `NoMemory`, `Busy`.
-    pub fn children(&self, caller: u32, pid: u32, from: u32) -> Result<Vec<u32>, Error> {
-        self.look().children(caller, pid, from)
-    }
-
-    /// As [`Table::group_members`]. It is not recorded.
-    ///
-    /// # Errors
-    /// `Refused` as `NoCaller`; `NoMemory`, `Busy`.
-    pub fn group_members(&self, caller: u32, group: u32, from: u32) -> Result<Vec<u32>, Error> {
-        self.look().group_members(caller, group, from)
-    }
-
-    /// As [`Table::session_members`]. It is not recorded.
-    ///
-    /// # Errors
-    /// `Refused` as `NoCaller`; `NoMemory`, `Busy`.
-    pub fn session_members(&self, caller: u32, session: u32, from: u32) -> Result<Vec<u32>, Error> {
-        self.look().session_members(caller, session, from)
-    }
-
-    /// As [`Table::namespace_members`]. It is not recorded.
-    ///
-    /// # Errors
-    /// `Refused` as `NoCaller`; `NoMemory`, `Busy`.
-    pub fn namespace_members(&self, caller: u32, pid: u32, from: u32) -> Result<Vec<u32>, Error> {
-        self.look().namespace_members(caller, pid, from)
-    }
-
-    /// As [`Table::namespace_own`]. It is not recorded.
-    ///
-    /// # Errors
-    /// `Refused` as `NoCaller`; `NoMemory`, `Busy`.
-    pub fn namespace_own(&self, caller: u32, pid: u32, from: u32) -> Result<Vec<u32>, Error> {
-        self.look().namespace_own(caller, pid, from)
-    }
-
-    /// As [`Table::space`]. It is not recorded.
-    ///
-    /// # Errors
-    /// `Busy`.
-    pub fn space(&self, id: u64) -> Result<Option<SpaceStat>, Error> {
-        self.look().space(id)
-    }
-
-    /// As [`Table::spaces_inside`]. It is not recorded.
-    ///
-    /// # Errors
-    /// `NoMemory`, `Busy`.
-    pub fn spaces_inside(&self, id: u64, from: u64) -> Result<Option<Vec<u64>>, Error> {
-        self.look().spaces_inside(id, from)
-    }
-
-    /// As [`Table::controls_inside`]. It is not recorded.
-    ///
-    /// # Errors
-    /// `NoMemory`, `Busy`.
-    pub fn controls_inside(&self, id: u64, from: u64) -> Result<Option<Vec<u64>>, Error> {
-        self.look().controls_inside(id, from)
-    }
-
-    /// As [`Table::control_tasks`]. It is not recorded.
-    ///
-    /// # Errors
-    /// `Refused` as `NoCaller`, `NoControl`; `NoMemory`, `Busy`.
-    pub fn control_tasks(&self, caller: u32, control: u64, from: u32) -> Result<Vec<u32>, Error> {
-        self.look().control_tasks(caller, control, from)
-    }
-
-    /// As [`Table::would`]. It is not recorded.
-    ///
-    /// # Errors
-    /// `Spent`, `Busy`.
-    pub fn would(&self, call: Call) -> Result<Reply, Error> {
-        self.look().would(call)
-    }
-    // The end of questions of a shared table.
+    // The end of questions.
 }

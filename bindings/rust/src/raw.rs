@@ -2,12 +2,14 @@
 //! that is opened and closed. All unsafe code of the crate is here.
 #![allow(unsafe_code)]
 
+use std::cell::UnsafeCell;
 use std::ffi::c_void;
-use std::mem::size_of;
-use std::ptr;
-use std::sync::atomic::AtomicU8;
+use std::mem::{size_of, zeroed};
+use std::panic::RefUnwindSafe;
 #[cfg(test)]
-use std::sync::atomic::Ordering;
+use std::ptr;
+#[cfg(test)]
+use std::sync::atomic::{AtomicU8, Ordering};
 
 // Written by tools/interface: statuses.
 /// What the functions answer.
@@ -27,6 +29,7 @@ mod statuses {
     pub(crate) const NOT_KEPT: u32 = 2;
     pub(crate) const AGAIN: u32 = 11;
     pub(crate) const NO_HISTORY: u32 = 95;
+    pub(crate) const NO_THREADS: u32 = 37;
     pub(crate) const DEVICE: u32 = 5;
     pub(crate) const NOT_SAVED: u32 = 8;
     pub(crate) const NOT_EMPTY: u32 = 17;
@@ -123,27 +126,20 @@ mod bounds {
 pub(crate) use bounds::*;
 // The end of bounds.
 
-/// A table, or none, or a record, or none: it begins as zeroes. The two structs of the header are alike.
+// Written by tools/interface: structs.
+/// `struct pidtab`.
 #[repr(C)]
 struct Held {
     at: *mut c_void,
     is_open: bool,
-    /// The mark, which a query changes too.
-    in_use: AtomicU8,
+    in_use: u8,
+    way: u8,
+    workers: u8,
+    seated: u8,
+    keep: u64,
+    threads: *mut c_void,
 }
 
-impl Held {
-    /// None, on the heap, so that it stays where it is when it is open.
-    fn none() -> Box<Held> {
-        Box::new(Held {
-            at: ptr::null_mut(),
-            is_open: false,
-            in_use: AtomicU8::new(0),
-        })
-    }
-}
-
-// Written by tools/interface: structs.
 /// `struct pidtab_call`.
 #[repr(C)]
 #[derive(Clone, Copy, Debug, PartialEq)]
@@ -157,28 +153,12 @@ pub(crate) struct Call {
     pub(crate) pgid: i32,
 }
 
-impl Call {
-    pub(crate) const BLANK: Call = Call {
-        operation: 0,
-        caller: 0,
-        id: 0,
-        number: 0,
-        choice: 0,
-        pid: 0,
-        pgid: 0,
-    };
-}
-
 /// `struct pidtab_fault`.
 #[repr(C)]
 #[derive(Clone, Copy, Debug, PartialEq)]
 pub(crate) struct Fault {
     pub(crate) line: u64,
     pub(crate) kind: u32,
-}
-
-impl Fault {
-    pub(crate) const BLANK: Fault = Fault { line: 0, kind: 0 };
 }
 
 /// `struct pidtab_reply`.
@@ -192,18 +172,6 @@ pub(crate) struct Reply {
     pub(crate) first: u64,
     pub(crate) second: u64,
     pub(crate) levels: [u32; LEVELS_MAX],
-}
-
-impl Reply {
-    pub(crate) const BLANK: Reply = Reply {
-        kind: 0,
-        error: 0,
-        refusal: 0,
-        count: 0,
-        first: 0,
-        second: 0,
-        levels: [0; LEVELS_MAX],
-    };
 }
 
 /// `struct pidtab_task`.
@@ -226,25 +194,6 @@ pub(crate) struct Task {
     pub(crate) levels: [u32; LEVELS_MAX],
 }
 
-impl Task {
-    pub(crate) const BLANK: Task = Task {
-        error: 0,
-        refusal: 0,
-        count: 0,
-        parent: 0,
-        group: 0,
-        session: 0,
-        ended: 0,
-        status: 0,
-        executed: 0,
-        subreaper: 0,
-        space: 0,
-        control: 0,
-        root: 0,
-        levels: [0; LEVELS_MAX],
-    };
-}
-
 /// `struct pidtab_space`.
 #[repr(C)]
 #[derive(Clone, Copy, Debug, PartialEq)]
@@ -256,16 +205,6 @@ pub(crate) struct Space {
     pub(crate) fallen: u32,
 }
 
-impl Space {
-    pub(crate) const BLANK: Space = Space {
-        id: 0,
-        parent: 0,
-        level: 0,
-        init: 0,
-        fallen: 0,
-    };
-}
-
 /// `struct pidtab_effect`.
 #[repr(C)]
 #[derive(Clone, Copy, Debug, PartialEq)]
@@ -273,14 +212,6 @@ pub(crate) struct Effect {
     pub(crate) what: u32,
     pub(crate) number: u32,
     pub(crate) value: u64,
-}
-
-impl Effect {
-    pub(crate) const BLANK: Effect = Effect {
-        what: 0,
-        number: 0,
-        value: 0,
-    };
 }
 
 /// `struct pidtab_entry`.
@@ -292,14 +223,6 @@ pub(crate) struct Entry {
     pub(crate) reply: Reply,
 }
 
-impl Entry {
-    pub(crate) const BLANK: Entry = Entry {
-        worker: 0,
-        call: Call::BLANK,
-        reply: Reply::BLANK,
-    };
-}
-
 /// `struct pidtab_saved_head`.
 #[repr(C)]
 #[derive(Clone, Copy, Debug, PartialEq)]
@@ -309,294 +232,116 @@ pub(crate) struct SavedHead {
     pub(crate) first_stamp: u64,
 }
 
+/// `struct pidtab_settings`.
+#[repr(C)]
+#[derive(Clone, Copy, Debug, PartialEq)]
+pub(crate) struct Settings {
+    pub(crate) pid_max: u32,
+    pub(crate) workers: u32,
+    pub(crate) first_stamp: u64,
+    pub(crate) keep: u64,
+    pub(crate) threads: bool,
+}
+
+impl Held {
+    // SAFETY: each field may be zero.
+    pub(crate) const BLANK: Held = unsafe { zeroed() };
+}
+
+impl Call {
+    // SAFETY: each field may be zero.
+    pub(crate) const BLANK: Call = unsafe { zeroed() };
+}
+
+impl Fault {
+    // SAFETY: each field may be zero.
+    pub(crate) const BLANK: Fault = unsafe { zeroed() };
+}
+
+impl Reply {
+    // SAFETY: each field may be zero.
+    pub(crate) const BLANK: Reply = unsafe { zeroed() };
+}
+
+impl Task {
+    // SAFETY: each field may be zero.
+    pub(crate) const BLANK: Task = unsafe { zeroed() };
+}
+
+impl Space {
+    // SAFETY: each field may be zero.
+    pub(crate) const BLANK: Space = unsafe { zeroed() };
+}
+
+impl Effect {
+    // SAFETY: each field may be zero.
+    pub(crate) const BLANK: Effect = unsafe { zeroed() };
+}
+
+impl Entry {
+    // SAFETY: each field may be zero.
+    pub(crate) const BLANK: Entry = unsafe { zeroed() };
+}
+
 impl SavedHead {
-    pub(crate) const BLANK: SavedHead = SavedHead {
-        pid_max: 0,
-        workers: 0,
-        first_stamp: 0,
-    };
+    // SAFETY: each field may be zero.
+    pub(crate) const BLANK: SavedHead = unsafe { zeroed() };
 }
 // The end of structs.
 
-impl Entry {
-    /// The room for an entry.
-    pub(crate) fn blank() -> Entry {
-        Entry::BLANK
-    }
-}
-
-// The sizes are those that test.c, test_shared.c and test_saved.c of bindings/c assert.
+// The sizes are those that the tests of bindings/c assert.
 const _: () = {
-    assert!(size_of::<Held>() == 16 && size_of::<Call>() == 32);
+    assert!(size_of::<Held>() == 32 && size_of::<Settings>() == 32 && size_of::<Call>() == 32);
     assert!(size_of::<Reply>() == 168 && size_of::<Task>() == 192);
     assert!(size_of::<Entry>() == 208 && size_of::<SavedHead>() == 16);
     assert!(size_of::<Effect>() == 16);
 };
 
 // Written by tools/interface: functions.
-#[allow(dead_code)] // Not each is used here.
+#[rustfmt::skip]
 extern "C" {
     fn pidtab_version() -> u32;
-    fn pidtab_open(table: *mut Held, pid_max: u32) -> u32;
+    fn pidtab_open_with(table: *mut Held, settings: *const Settings) -> u32;
     fn pidtab_close(table: *mut Held) -> u32;
-    fn pidtab_line(
-        table: *mut Held,
-        line: *const c_void,
-        length: usize,
-        answer: *mut c_void,
-        room: usize,
-        size: *mut usize,
-    ) -> u32;
     fn pidtab_list(table: *const Held, bytes: *mut c_void, room: usize, size: *mut usize) -> u32;
     fn pidtab_dump(table: *const Held, bytes: *mut c_void, room: usize, size: *mut usize) -> u32;
-    fn pidtab_load(table: *mut Held, text: *const c_void, length: usize, fault: *mut Fault) -> u32;
+    fn pidtab_load_with(table: *mut Held, text: *const c_void, length: usize, settings: *const Settings, counts: *const u64, fault: *mut Fault) -> u32;
     fn pidtab_call(table: *mut Held, call: *const Call, reply: *mut Reply) -> u32;
-    fn pidtab_getpid_of(table: *mut Held, caller: u32, number: *mut u64) -> u32;
-    fn pidtab_getppid_of(table: *mut Held, caller: u32, number: *mut u64) -> u32;
-    fn pidtab_getpgid_of(table: *mut Held, caller: u32, pid: u32, number: *mut u64) -> u32;
-    fn pidtab_getsid_of(table: *mut Held, caller: u32, pid: u32, number: *mut u64) -> u32;
-    fn pidtab_next_of(table: *mut Held, caller: u32, kind: u32, from: u32, number: *mut u64)
-        -> u32;
-    fn pidtab_count_of(table: *mut Held, id: u64, number: *mut u64) -> u32;
     fn pidtab_ask(table: *const Held, call: *const Call, reply: *mut Reply) -> u32;
     fn pidtab_stat(table: *const Held, caller: u32, number: u32, task: *mut Task) -> u32;
-    fn pidtab_page(
-        table: *const Held,
-        caller: u32,
-        whom: u32,
-        number: u32,
-        from: u32,
-        numbers: *mut u32,
-        room: usize,
-        reply: *mut Reply,
-    ) -> u32;
+    fn pidtab_page(table: *const Held, caller: u32, whom: u32, number: u32, from: u32, numbers: *mut u32, room: usize, reply: *mut Reply) -> u32;
     fn pidtab_space(table: *const Held, id: u64, space: *mut Space) -> u32;
-    fn pidtab_inside(
-        table: *const Held,
-        tree: u32,
-        id: u64,
-        from: u64,
-        ids: *mut u64,
-        room: usize,
-        count: *mut u64,
-    ) -> u32;
-    fn pidtab_control_tasks(
-        table: *const Held,
-        caller: u32,
-        control: u64,
-        from: u32,
-        numbers: *mut u32,
-        room: usize,
-        reply: *mut Reply,
-    ) -> u32;
+    fn pidtab_inside(table: *const Held, tree: u32, id: u64, from: u64, ids: *mut u64, room: usize, count: *mut u64) -> u32;
+    fn pidtab_control_tasks(table: *const Held, caller: u32, control: u64, from: u32, numbers: *mut u32, room: usize, reply: *mut Reply) -> u32;
     fn pidtab_would(table: *const Held, call: *const Call, reply: *mut Reply) -> u32;
-    fn pidtab_fork_at(
-        table: *mut Held,
-        caller: u32,
-        new_space: u32,
-        child: u32,
-        root: u32,
-        reply: *mut Reply,
-    ) -> u32;
-    fn pidtab_call_told(
-        table: *mut Held,
-        call: *const Call,
-        reply: *mut Reply,
-        effects: *mut Effect,
-        room: usize,
-        count: *mut u64,
-    ) -> u32;
-    fn pidtab_call_line(call: *const Call, line: *mut c_void, room: usize, size: *mut usize)
-        -> u32;
-    fn pidtab_reply_line(
-        reply: *const Reply,
-        answer: *mut c_void,
-        room: usize,
-        size: *mut usize,
-    ) -> u32;
-    fn pidtab_record_open(record: *mut Held, pid_max: u32, first_stamp: u64, workers: u32) -> u32;
-    fn pidtab_record_close(record: *mut Held) -> u32;
-    fn pidtab_record_call(
-        record: *mut Held,
-        worker: u32,
-        call: *const Call,
-        reply: *mut Reply,
-        ordinal: *mut u64,
-    ) -> u32;
-    fn pidtab_record_call_keeping(
-        record: *mut Held,
-        worker: u32,
-        call: *const Call,
-        keep: u64,
-        reply: *mut Reply,
-        ordinal: *mut u64,
-    ) -> u32;
-    fn pidtab_record_calls(
-        record: *mut Held,
-        worker: u32,
-        calls: *const Call,
-        count: usize,
-        replies: *mut Reply,
-        room: usize,
-        made: *mut usize,
-        ordinal: *mut u64,
-    ) -> u32;
-    fn pidtab_record_line(
-        record: *mut Held,
-        worker: u32,
-        line: *const c_void,
-        length: usize,
-        answer: *mut c_void,
-        room: usize,
-        size: *mut usize,
-        ordinal: *mut u64,
-    ) -> u32;
-    fn pidtab_record_ask(record: *const Held, call: *const Call, reply: *mut Reply) -> u32;
-    fn pidtab_record_stat(record: *const Held, caller: u32, number: u32, task: *mut Task) -> u32;
-    fn pidtab_record_page(
-        record: *const Held,
-        caller: u32,
-        whom: u32,
-        number: u32,
-        from: u32,
-        numbers: *mut u32,
-        room: usize,
-        reply: *mut Reply,
-    ) -> u32;
-    fn pidtab_record_space(record: *const Held, id: u64, space: *mut Space) -> u32;
-    fn pidtab_record_inside(
-        record: *const Held,
-        tree: u32,
-        id: u64,
-        from: u64,
-        ids: *mut u64,
-        room: usize,
-        count: *mut u64,
-    ) -> u32;
-    fn pidtab_record_control_tasks(
-        record: *const Held,
-        caller: u32,
-        control: u64,
-        from: u32,
-        numbers: *mut u32,
-        room: usize,
-        reply: *mut Reply,
-    ) -> u32;
-    fn pidtab_record_would(record: *const Held, call: *const Call, reply: *mut Reply) -> u32;
-    fn pidtab_record_fork_at(
-        record: *mut Held,
-        worker: u32,
-        caller: u32,
-        new_space: u32,
-        child: u32,
-        root: u32,
-        reply: *mut Reply,
-        ordinal: *mut u64,
-    ) -> u32;
-    fn pidtab_record_call_told(
-        record: *mut Held,
-        worker: u32,
-        call: *const Call,
-        reply: *mut Reply,
-        ordinal: *mut u64,
-        effects: *mut Effect,
-        room: usize,
-        count: *mut u64,
-    ) -> u32;
-    fn pidtab_record_counts(record: *const Held, first_kept: *mut u64, recorded: *mut u64) -> u32;
-    fn pidtab_record_worker(record: *const Held, worker: u32, calls: *mut u64) -> u32;
-    fn pidtab_record_entry(
-        record: *const Held,
-        ordinal: u64,
-        worker: *mut u64,
-        call: *mut Call,
-        reply: *mut Reply,
-    ) -> u32;
-    fn pidtab_record_read(
-        record: *const Held,
-        from: u64,
-        entries: *mut Entry,
-        room: usize,
-        count: *mut usize,
-    ) -> u32;
-    fn pidtab_record_replay(
-        record: *mut Held,
-        saved: *const Entry,
-        count: usize,
-        place: *mut usize,
-    ) -> u32;
-    fn pidtab_record_keep(record: *mut Held, keep: u64) -> u32;
-    fn pidtab_record_checkpoint(record: *mut Held) -> u32;
-    fn pidtab_record_checkpoint_at(record: *mut Held, seen: u64) -> u32;
-    fn pidtab_record_list(
-        record: *const Held,
-        bytes: *mut c_void,
-        room: usize,
-        size: *mut usize,
-    ) -> u32;
-    fn pidtab_record_opening(
-        record: *const Held,
-        bytes: *mut c_void,
-        room: usize,
-        size: *mut usize,
-    ) -> u32;
-    fn pidtab_record_dump(
-        record: *const Held,
-        bytes: *mut c_void,
-        room: usize,
-        size: *mut usize,
-    ) -> u32;
-    fn pidtab_record_load(
-        record: *mut Held,
-        text: *const c_void,
-        length: usize,
-        counts: *const u64,
-        workers: usize,
-        fault: *mut Fault,
-    ) -> u32;
-    fn pidtab_saved_put_head(
-        head: *const SavedHead,
-        bytes: *mut c_void,
-        room: usize,
-        size: *mut usize,
-        sum: *mut u64,
-    ) -> u32;
-    fn pidtab_saved_put(
-        entry: *const Entry,
-        bytes: *mut c_void,
-        room: usize,
-        size: *mut usize,
-        sum: *mut u64,
-    ) -> u32;
-    fn pidtab_saved_take_head(
-        bytes: *const c_void,
-        length: usize,
-        head: *mut SavedHead,
-        size: *mut usize,
-        sum: *mut u64,
-    ) -> u32;
-    fn pidtab_saved_take(
-        bytes: *const c_void,
-        length: usize,
-        entry: *mut Entry,
-        size: *mut usize,
-        sum: *mut u64,
-    ) -> u32;
-    fn pidtab_saved_next(
-        bytes: *const c_void,
-        length: usize,
-        is_end: bool,
-        entry: *mut Entry,
-        size: *mut usize,
-        sum: *mut u64,
-        left_out: *mut u64,
-    ) -> u32;
+    fn pidtab_call_line(call: *const Call, line: *mut c_void, room: usize, size: *mut usize) -> u32;
+    fn pidtab_reply_line(reply: *const Reply, answer: *mut c_void, room: usize, size: *mut usize) -> u32;
+    fn pidtab_call_by(table: *mut Held, worker: u32, call: *const Call, reply: *mut Reply, ordinal: *mut u64) -> u32;
+    fn pidtab_calls(table: *mut Held, worker: u32, calls: *const Call, count: usize, replies: *mut Reply, room: usize, made: *mut usize, ordinal: *mut u64) -> u32;
+    fn pidtab_line_by(table: *mut Held, worker: u32, line: *const c_void, length: usize, answer: *mut c_void, room: usize, size: *mut usize, ordinal: *mut u64) -> u32;
+    fn pidtab_fork_at_by(table: *mut Held, worker: u32, caller: u32, new_space: u32, child: u32, root: u32, reply: *mut Reply, ordinal: *mut u64) -> u32;
+    fn pidtab_call_told_by(table: *mut Held, worker: u32, call: *const Call, reply: *mut Reply, ordinal: *mut u64, effects: *mut Effect, room: usize, count: *mut u64) -> u32;
+    fn pidtab_seat(table: *mut Held, worker: *mut u32) -> u32;
+    fn pidtab_counts(table: *const Held, first_kept: *mut u64, recorded: *mut u64) -> u32;
+    fn pidtab_worker(table: *const Held, worker: u32, calls: *mut u64) -> u32;
+    fn pidtab_entry(table: *const Held, ordinal: u64, worker: *mut u64, call: *mut Call, reply: *mut Reply) -> u32;
+    fn pidtab_read(table: *const Held, from: u64, entries: *mut Entry, room: usize, count: *mut usize) -> u32;
+    fn pidtab_replay(table: *mut Held, saved: *const Entry, count: usize, place: *mut usize) -> u32;
+    fn pidtab_keep(table: *mut Held, keep: u64) -> u32;
+    fn pidtab_checkpoint(table: *mut Held) -> u32;
+    fn pidtab_checkpoint_at(table: *mut Held, seen: u64) -> u32;
+    fn pidtab_opening(table: *const Held, bytes: *mut c_void, room: usize, size: *mut usize) -> u32;
+    fn pidtab_saved_put_head(head: *const SavedHead, bytes: *mut c_void, room: usize, size: *mut usize, sum: *mut u64) -> u32;
+    fn pidtab_saved_put(entry: *const Entry, bytes: *mut c_void, room: usize, size: *mut usize, sum: *mut u64) -> u32;
+    fn pidtab_saved_take_head(bytes: *const c_void, length: usize, head: *mut SavedHead, size: *mut usize, sum: *mut u64) -> u32;
+    fn pidtab_saved_take(bytes: *const c_void, length: usize, entry: *mut Entry, size: *mut usize, sum: *mut u64) -> u32;
+    fn pidtab_saved_next(bytes: *const c_void, length: usize, is_end: bool, entry: *mut Entry, size: *mut usize, sum: *mut u64, left_out: *mut u64) -> u32;
 }
 // The end of functions.
 
 // What the head of the header asks of a caller, and why each function below may be called:
 //
-// - A struct begins as zeroes, and stays on the heap until it is dropped. It has one owner, whose methods take it by `&mut`.
+// - A struct begins as zeroes, and stays on the heap until it is dropped. It has one owner.
 // - Each pointer is a reference's or a slice's. None is null, not even to 0 bytes, and the compiler lets no two of them overlap.
 // - The library takes its memory from malloc, which any thread may free.
 // - No function here is called from a signal handler, as that would be unsafe code of the caller's.
@@ -619,197 +364,207 @@ pub(crate) fn done<T>(status: u32, value: T) -> Result<T, u32> {
 
 /// An open table.
 pub(crate) struct Table {
-    held: Box<Held>,
+    held: Box<UnsafeCell<Held>>,
 }
 
 // SAFETY: the table's memory is reached by this owner alone, the library has no state beside it, and it comes from malloc, which any
 // thread may free. That the handle may go to another thread is proved: crates/foreign_handles/proofs/handle/Handle/TheSendSync.
 unsafe impl Send for Table {}
 
-// SAFETY: a `&` reaches queries alone. Each works on a copy of the handle, which guard.c makes, and proved code has the table there by a `&`.
-// That such functions may overlap is not proved, and tested: docs/PROVED.md.
+// SAFETY: each function marks the table before it looks at it, and is BUSY where a mark of another thread is there that keeps it out: guard.c. Queries
+// alone overlap. Each works on a copy of the handle, and proved code has the table there by a `&`. That such functions may overlap is not proved, and
+// tested: docs/PROVED.md.
 unsafe impl Sync for Table {}
 
-impl Table {
-    // Written by tools/interface: methods of a table.
-    pub(crate) fn open(pid_max: u32) -> Result<Table, u32> {
-        compare_versions();
-        let mut held = Held::none();
-        // SAFETY: the first pointer is to a struct of zeroes that is this call's alone; each other is that of a reference or of a slice.
-        let status = unsafe { pidtab_open(&mut *held, pid_max) };
-        done(status, Table { held })
-    }
+// What panics is this crate alone, and no function of the library is under way then.
+impl RefUnwindSafe for Table {}
 
-    pub(crate) fn line(&mut self, line: &[u8], answer: &mut [u8], size: &mut usize) -> u32 {
-        // SAFETY: it is open and lent to this call alone; each pointer is that of a reference or of a slice with that length.
-        unsafe {
-            pidtab_line(
-                &mut *self.held,
-                line.as_ptr().cast(),
-                line.len(),
-                answer.as_mut_ptr().cast(),
-                answer.len(),
-                size,
-            )
+impl Table {
+    /// A struct of zeroes, which is no open table yet.
+    fn none() -> Table {
+        compare_versions();
+        Table {
+            held: Box::new(UnsafeCell::new(Held::BLANK)),
         }
     }
 
+    pub(crate) fn open_with(settings: &Settings) -> Result<Table, u32> {
+        let table = Table::none();
+        // SAFETY: the first pointer is to a struct of zeroes that is this call's alone, and the other one that of a reference.
+        let status = unsafe { pidtab_open_with(table.held.get(), settings) };
+        done(status, table)
+    }
+
+    /// There is a count for each worker of the settings.
+    pub(crate) fn load_with(
+        text: &[u8],
+        settings: &Settings,
+        counts: &[u64],
+        fault: &mut Fault,
+    ) -> Result<Table, u32> {
+        assert_eq!(counts.len(), settings.workers as usize, "the counts");
+        let table = Table::none();
+        // SAFETY: as above; `counts` has as many as the function reads.
+        let status = unsafe {
+            pidtab_load_with(
+                table.held.get(),
+                text.as_ptr().cast(),
+                text.len(),
+                settings,
+                counts.as_ptr(),
+                fault,
+            )
+        };
+        done(status, table)
+    }
+}
+
+#[allow(clippy::too_many_arguments)] // As the functions have them.
+#[rustfmt::skip]
+impl Table {
+    // Written by tools/interface: methods of a table.
     pub(crate) fn list(&self, bytes: &mut [u8], size: &mut usize) -> u32 {
-        // SAFETY: it is open and lent to queries alone; each pointer is that of a reference or of a slice with that length.
-        unsafe { pidtab_list(&*self.held, bytes.as_mut_ptr().cast(), bytes.len(), size) }
+        // SAFETY: the table is open, and each other pointer is that of a reference or of a slice with that length.
+        unsafe { pidtab_list(self.held.get(), bytes.as_mut_ptr().cast(), bytes.len(), size) }
     }
 
     pub(crate) fn dump(&self, bytes: &mut [u8], size: &mut usize) -> u32 {
-        // SAFETY: it is open and lent to queries alone; each pointer is that of a reference or of a slice with that length.
-        unsafe { pidtab_dump(&*self.held, bytes.as_mut_ptr().cast(), bytes.len(), size) }
+        // SAFETY: the table is open, and each other pointer is that of a reference or of a slice with that length.
+        unsafe { pidtab_dump(self.held.get(), bytes.as_mut_ptr().cast(), bytes.len(), size) }
     }
 
-    pub(crate) fn load(text: &[u8], fault: &mut Fault) -> Result<Table, u32> {
-        compare_versions();
-        let mut held = Held::none();
-        // SAFETY: the first pointer is to a struct of zeroes that is this call's alone; each other is that of a reference or of a slice.
-        let status = unsafe { pidtab_load(&mut *held, text.as_ptr().cast(), text.len(), fault) };
-        done(status, Table { held })
-    }
-
-    pub(crate) fn call(&mut self, call: &Call, reply: &mut Reply) -> u32 {
-        // SAFETY: it is open and lent to this call alone; each pointer is that of a reference or of a slice with that length.
-        unsafe { pidtab_call(&mut *self.held, call, reply) }
+    pub(crate) fn call(&self, call: &Call, reply: &mut Reply) -> u32 {
+        // SAFETY: the table is open, and each other pointer is that of a reference or of a slice with that length.
+        unsafe { pidtab_call(self.held.get(), call, reply) }
     }
 
     pub(crate) fn ask(&self, call: &Call, reply: &mut Reply) -> u32 {
-        // SAFETY: it is open and lent to queries alone; each pointer is that of a reference or of a slice with that length.
-        unsafe { pidtab_ask(&*self.held, call, reply) }
+        // SAFETY: the table is open, and each other pointer is that of a reference or of a slice with that length.
+        unsafe { pidtab_ask(self.held.get(), call, reply) }
     }
 
     pub(crate) fn stat(&self, caller: u32, number: u32, task: &mut Task) -> u32 {
-        // SAFETY: it is open and lent to queries alone; each pointer is that of a reference or of a slice with that length.
-        unsafe { pidtab_stat(&*self.held, caller, number, task) }
+        // SAFETY: the table is open, and each other pointer is that of a reference or of a slice with that length.
+        unsafe { pidtab_stat(self.held.get(), caller, number, task) }
     }
 
-    pub(crate) fn page(
-        &self,
-        caller: u32,
-        whom: u32,
-        number: u32,
-        from: u32,
-        numbers: &mut [u32],
-        reply: &mut Reply,
-    ) -> u32 {
-        // SAFETY: it is open and lent to queries alone; each pointer is that of a reference or of a slice with that length.
-        unsafe {
-            pidtab_page(
-                &*self.held,
-                caller,
-                whom,
-                number,
-                from,
-                numbers.as_mut_ptr(),
-                numbers.len(),
-                reply,
-            )
-        }
+    pub(crate) fn page(&self, caller: u32, whom: u32, number: u32, from: u32, numbers: &mut [u32], reply: &mut Reply) -> u32 {
+        // SAFETY: the table is open, and each other pointer is that of a reference or of a slice with that length.
+        unsafe { pidtab_page(self.held.get(), caller, whom, number, from, numbers.as_mut_ptr(), numbers.len(), reply) }
     }
 
     pub(crate) fn space(&self, id: u64, space: &mut Space) -> u32 {
-        // SAFETY: it is open and lent to queries alone; each pointer is that of a reference or of a slice with that length.
-        unsafe { pidtab_space(&*self.held, id, space) }
+        // SAFETY: the table is open, and each other pointer is that of a reference or of a slice with that length.
+        unsafe { pidtab_space(self.held.get(), id, space) }
     }
 
-    pub(crate) fn inside(
-        &self,
-        tree: u32,
-        id: u64,
-        from: u64,
-        ids: &mut [u64],
-        count: &mut u64,
-    ) -> u32 {
-        // SAFETY: it is open and lent to queries alone; each pointer is that of a reference or of a slice with that length.
-        unsafe {
-            pidtab_inside(
-                &*self.held,
-                tree,
-                id,
-                from,
-                ids.as_mut_ptr(),
-                ids.len(),
-                count,
-            )
-        }
+    pub(crate) fn inside(&self, tree: u32, id: u64, from: u64, ids: &mut [u64], count: &mut u64) -> u32 {
+        // SAFETY: the table is open, and each other pointer is that of a reference or of a slice with that length.
+        unsafe { pidtab_inside(self.held.get(), tree, id, from, ids.as_mut_ptr(), ids.len(), count) }
     }
 
-    pub(crate) fn control_tasks(
-        &self,
-        caller: u32,
-        control: u64,
-        from: u32,
-        numbers: &mut [u32],
-        reply: &mut Reply,
-    ) -> u32 {
-        // SAFETY: it is open and lent to queries alone; each pointer is that of a reference or of a slice with that length.
-        unsafe {
-            pidtab_control_tasks(
-                &*self.held,
-                caller,
-                control,
-                from,
-                numbers.as_mut_ptr(),
-                numbers.len(),
-                reply,
-            )
-        }
+    pub(crate) fn control_tasks(&self, caller: u32, control: u64, from: u32, numbers: &mut [u32], reply: &mut Reply) -> u32 {
+        // SAFETY: the table is open, and each other pointer is that of a reference or of a slice with that length.
+        unsafe { pidtab_control_tasks(self.held.get(), caller, control, from, numbers.as_mut_ptr(), numbers.len(), reply) }
     }
 
     pub(crate) fn would(&self, call: &Call, reply: &mut Reply) -> u32 {
-        // SAFETY: it is open and lent to queries alone; each pointer is that of a reference or of a slice with that length.
-        unsafe { pidtab_would(&*self.held, call, reply) }
+        // SAFETY: the table is open, and each other pointer is that of a reference or of a slice with that length.
+        unsafe { pidtab_would(self.held.get(), call, reply) }
     }
 
-    pub(crate) fn fork_at(
-        &mut self,
-        caller: u32,
-        new_space: u32,
-        child: u32,
-        root: u32,
-        reply: &mut Reply,
-    ) -> u32 {
-        // SAFETY: it is open and lent to this call alone; each pointer is that of a reference or of a slice with that length.
-        unsafe { pidtab_fork_at(&mut *self.held, caller, new_space, child, root, reply) }
+    pub(crate) fn call_by(&self, worker: u32, call: &Call, reply: &mut Reply, ordinal: &mut u64) -> u32 {
+        // SAFETY: the table is open, and each other pointer is that of a reference or of a slice with that length.
+        unsafe { pidtab_call_by(self.held.get(), worker, call, reply, ordinal) }
     }
 
-    pub(crate) fn call_told(
-        &mut self,
-        call: &Call,
-        reply: &mut Reply,
-        effects: &mut [Effect],
-        count: &mut u64,
-    ) -> u32 {
-        // SAFETY: it is open and lent to this call alone; each pointer is that of a reference or of a slice with that length.
-        unsafe {
-            pidtab_call_told(
-                &mut *self.held,
-                call,
-                reply,
-                effects.as_mut_ptr(),
-                effects.len(),
-                count,
-            )
-        }
+    pub(crate) fn calls(&self, worker: u32, calls: &[Call], replies: &mut [Reply], made: &mut usize, ordinal: &mut u64) -> u32 {
+        // SAFETY: the table is open, and each other pointer is that of a reference or of a slice with that length.
+        unsafe { pidtab_calls(self.held.get(), worker, calls.as_ptr(), calls.len(), replies.as_mut_ptr(), replies.len(), made, ordinal) }
+    }
+
+    pub(crate) fn line_by(&self, worker: u32, line: &[u8], answer: &mut [u8], size: &mut usize, ordinal: &mut u64) -> u32 {
+        // SAFETY: the table is open, and each other pointer is that of a reference or of a slice with that length.
+        unsafe { pidtab_line_by(self.held.get(), worker, line.as_ptr().cast(), line.len(), answer.as_mut_ptr().cast(), answer.len(), size, ordinal) }
+    }
+
+    pub(crate) fn fork_at_by(&self, worker: u32, caller: u32, new_space: u32, child: u32, root: u32, reply: &mut Reply, ordinal: &mut u64) -> u32 {
+        // SAFETY: the table is open, and each other pointer is that of a reference or of a slice with that length.
+        unsafe { pidtab_fork_at_by(self.held.get(), worker, caller, new_space, child, root, reply, ordinal) }
+    }
+
+    pub(crate) fn call_told_by(&self, worker: u32, call: &Call, reply: &mut Reply, ordinal: &mut u64, effects: &mut [Effect], count: &mut u64) -> u32 {
+        // SAFETY: the table is open, and each other pointer is that of a reference or of a slice with that length.
+        unsafe { pidtab_call_told_by(self.held.get(), worker, call, reply, ordinal, effects.as_mut_ptr(), effects.len(), count) }
+    }
+
+    pub(crate) fn seat(&self, worker: &mut u32) -> u32 {
+        // SAFETY: the table is open, and each other pointer is that of a reference or of a slice with that length.
+        unsafe { pidtab_seat(self.held.get(), worker) }
+    }
+
+    pub(crate) fn counts(&self, first_kept: &mut u64, recorded: &mut u64) -> u32 {
+        // SAFETY: the table is open, and each other pointer is that of a reference or of a slice with that length.
+        unsafe { pidtab_counts(self.held.get(), first_kept, recorded) }
+    }
+
+    pub(crate) fn worker(&self, worker: u32, calls: &mut u64) -> u32 {
+        // SAFETY: the table is open, and each other pointer is that of a reference or of a slice with that length.
+        unsafe { pidtab_worker(self.held.get(), worker, calls) }
+    }
+
+    pub(crate) fn entry(&self, ordinal: u64, worker: &mut u64, call: &mut Call, reply: &mut Reply) -> u32 {
+        // SAFETY: the table is open, and each other pointer is that of a reference or of a slice with that length.
+        unsafe { pidtab_entry(self.held.get(), ordinal, worker, call, reply) }
+    }
+
+    pub(crate) fn read(&self, from: u64, entries: &mut [Entry], count: &mut usize) -> u32 {
+        // SAFETY: the table is open, and each other pointer is that of a reference or of a slice with that length.
+        unsafe { pidtab_read(self.held.get(), from, entries.as_mut_ptr(), entries.len(), count) }
+    }
+
+    pub(crate) fn replay(&self, saved: &[Entry], place: &mut usize) -> u32 {
+        // SAFETY: the table is open, and each other pointer is that of a reference or of a slice with that length.
+        unsafe { pidtab_replay(self.held.get(), saved.as_ptr(), saved.len(), place) }
+    }
+
+    pub(crate) fn keep(&self, keep: u64) -> u32 {
+        // SAFETY: the table is open, and each other pointer is that of a reference or of a slice with that length.
+        unsafe { pidtab_keep(self.held.get(), keep) }
+    }
+
+    pub(crate) fn checkpoint(&self) -> u32 {
+        // SAFETY: the table is open, and each other pointer is that of a reference or of a slice with that length.
+        unsafe { pidtab_checkpoint(self.held.get()) }
+    }
+
+    pub(crate) fn checkpoint_at(&self, seen: u64) -> u32 {
+        // SAFETY: the table is open, and each other pointer is that of a reference or of a slice with that length.
+        unsafe { pidtab_checkpoint_at(self.held.get(), seen) }
+    }
+
+    pub(crate) fn opening(&self, bytes: &mut [u8], size: &mut usize) -> u32 {
+        // SAFETY: the table is open, and each other pointer is that of a reference or of a slice with that length.
+        unsafe { pidtab_opening(self.held.get(), bytes.as_mut_ptr().cast(), bytes.len(), size) }
     }
     // The end of methods of a table.
+}
 
+#[cfg(test)]
+impl Table {
     /// As in a forked child, where the thread whose call was under way is not.
-    #[cfg(test)]
     pub(crate) fn mark(&self, in_call: bool) {
         let mark = if in_call { u8::MAX } else { 0 };
-        self.held.in_use.store(mark, Ordering::Relaxed);
+        // SAFETY: the mark is changed as guard.c changes it.
+        let in_use = unsafe { AtomicU8::from_ptr(ptr::addr_of_mut!((*self.held.get()).in_use)) };
+        in_use.store(mark, Ordering::Relaxed);
     }
 }
 
 impl Drop for Table {
     fn drop(&mut self) {
         // SAFETY: the table is lent to this call alone; one that is not open stays so. No other thread is in it, so it is closed.
-        unsafe { pidtab_close(&mut *self.held) };
+        unsafe { pidtab_close(self.held.get()) };
     }
 }
 
@@ -823,323 +578,6 @@ pub(crate) fn reply_line(reply: &Reply, answer: &mut [u8], size: &mut usize) -> 
 pub(crate) fn call_line(call: &Call, line: &mut [u8], size: &mut usize) -> u32 {
     // SAFETY: as in `reply_line`.
     unsafe { pidtab_call_line(call, line.as_mut_ptr().cast(), line.len(), size) }
-}
-
-/// An open record: a table with its history.
-pub(crate) struct Record {
-    held: Box<Held>,
-}
-
-// SAFETY: as a table. That the handle may go to another thread is proved: crates/foreign_handles/proofs/record_handle.
-unsafe impl Send for Record {}
-
-// SAFETY: as a table.
-unsafe impl Sync for Record {}
-
-impl Record {
-    // Written by tools/interface: methods of a record.
-    pub(crate) fn open(pid_max: u32, first_stamp: u64, workers: u32) -> Result<Record, u32> {
-        compare_versions();
-        let mut held = Held::none();
-        // SAFETY: the first pointer is to a struct of zeroes that is this call's alone; each other is that of a reference or of a slice.
-        let status = unsafe { pidtab_record_open(&mut *held, pid_max, first_stamp, workers) };
-        done(status, Record { held })
-    }
-
-    pub(crate) fn call(
-        &mut self,
-        worker: u32,
-        call: &Call,
-        reply: &mut Reply,
-        ordinal: &mut u64,
-    ) -> u32 {
-        // SAFETY: it is open and lent to this call alone; each pointer is that of a reference or of a slice with that length.
-        unsafe { pidtab_record_call(&mut *self.held, worker, call, reply, ordinal) }
-    }
-
-    pub(crate) fn calls(
-        &mut self,
-        worker: u32,
-        calls: &[Call],
-        replies: &mut [Reply],
-        made: &mut usize,
-        ordinal: &mut u64,
-    ) -> u32 {
-        // SAFETY: it is open and lent to this call alone; each pointer is that of a reference or of a slice with that length.
-        unsafe {
-            pidtab_record_calls(
-                &mut *self.held,
-                worker,
-                calls.as_ptr(),
-                calls.len(),
-                replies.as_mut_ptr(),
-                replies.len(),
-                made,
-                ordinal,
-            )
-        }
-    }
-
-    pub(crate) fn line(
-        &mut self,
-        worker: u32,
-        line: &[u8],
-        answer: &mut [u8],
-        size: &mut usize,
-        ordinal: &mut u64,
-    ) -> u32 {
-        // SAFETY: it is open and lent to this call alone; each pointer is that of a reference or of a slice with that length.
-        unsafe {
-            pidtab_record_line(
-                &mut *self.held,
-                worker,
-                line.as_ptr().cast(),
-                line.len(),
-                answer.as_mut_ptr().cast(),
-                answer.len(),
-                size,
-                ordinal,
-            )
-        }
-    }
-
-    pub(crate) fn ask(&self, call: &Call, reply: &mut Reply) -> u32 {
-        // SAFETY: it is open and lent to queries alone; each pointer is that of a reference or of a slice with that length.
-        unsafe { pidtab_record_ask(&*self.held, call, reply) }
-    }
-
-    pub(crate) fn stat(&self, caller: u32, number: u32, task: &mut Task) -> u32 {
-        // SAFETY: it is open and lent to queries alone; each pointer is that of a reference or of a slice with that length.
-        unsafe { pidtab_record_stat(&*self.held, caller, number, task) }
-    }
-
-    pub(crate) fn page(
-        &self,
-        caller: u32,
-        whom: u32,
-        number: u32,
-        from: u32,
-        numbers: &mut [u32],
-        reply: &mut Reply,
-    ) -> u32 {
-        // SAFETY: it is open and lent to queries alone; each pointer is that of a reference or of a slice with that length.
-        unsafe {
-            pidtab_record_page(
-                &*self.held,
-                caller,
-                whom,
-                number,
-                from,
-                numbers.as_mut_ptr(),
-                numbers.len(),
-                reply,
-            )
-        }
-    }
-
-    pub(crate) fn space(&self, id: u64, space: &mut Space) -> u32 {
-        // SAFETY: it is open and lent to queries alone; each pointer is that of a reference or of a slice with that length.
-        unsafe { pidtab_record_space(&*self.held, id, space) }
-    }
-
-    pub(crate) fn inside(
-        &self,
-        tree: u32,
-        id: u64,
-        from: u64,
-        ids: &mut [u64],
-        count: &mut u64,
-    ) -> u32 {
-        // SAFETY: it is open and lent to queries alone; each pointer is that of a reference or of a slice with that length.
-        unsafe {
-            pidtab_record_inside(
-                &*self.held,
-                tree,
-                id,
-                from,
-                ids.as_mut_ptr(),
-                ids.len(),
-                count,
-            )
-        }
-    }
-
-    pub(crate) fn control_tasks(
-        &self,
-        caller: u32,
-        control: u64,
-        from: u32,
-        numbers: &mut [u32],
-        reply: &mut Reply,
-    ) -> u32 {
-        // SAFETY: it is open and lent to queries alone; each pointer is that of a reference or of a slice with that length.
-        unsafe {
-            pidtab_record_control_tasks(
-                &*self.held,
-                caller,
-                control,
-                from,
-                numbers.as_mut_ptr(),
-                numbers.len(),
-                reply,
-            )
-        }
-    }
-
-    pub(crate) fn would(&self, call: &Call, reply: &mut Reply) -> u32 {
-        // SAFETY: it is open and lent to queries alone; each pointer is that of a reference or of a slice with that length.
-        unsafe { pidtab_record_would(&*self.held, call, reply) }
-    }
-
-    pub(crate) fn fork_at(
-        &mut self,
-        worker: u32,
-        caller: u32,
-        new_space: u32,
-        child: u32,
-        root: u32,
-        reply: &mut Reply,
-        ordinal: &mut u64,
-    ) -> u32 {
-        // SAFETY: it is open and lent to this call alone; each pointer is that of a reference or of a slice with that length.
-        unsafe {
-            pidtab_record_fork_at(
-                &mut *self.held,
-                worker,
-                caller,
-                new_space,
-                child,
-                root,
-                reply,
-                ordinal,
-            )
-        }
-    }
-
-    pub(crate) fn call_told(
-        &mut self,
-        worker: u32,
-        call: &Call,
-        reply: &mut Reply,
-        ordinal: &mut u64,
-        effects: &mut [Effect],
-        count: &mut u64,
-    ) -> u32 {
-        // SAFETY: it is open and lent to this call alone; each pointer is that of a reference or of a slice with that length.
-        unsafe {
-            pidtab_record_call_told(
-                &mut *self.held,
-                worker,
-                call,
-                reply,
-                ordinal,
-                effects.as_mut_ptr(),
-                effects.len(),
-                count,
-            )
-        }
-    }
-
-    pub(crate) fn counts(&self, first_kept: &mut u64, recorded: &mut u64) -> u32 {
-        // SAFETY: it is open and lent to queries alone; each pointer is that of a reference or of a slice with that length.
-        unsafe { pidtab_record_counts(&*self.held, first_kept, recorded) }
-    }
-
-    pub(crate) fn worker(&self, worker: u32, calls: &mut u64) -> u32 {
-        // SAFETY: it is open and lent to queries alone; each pointer is that of a reference or of a slice with that length.
-        unsafe { pidtab_record_worker(&*self.held, worker, calls) }
-    }
-
-    pub(crate) fn entry(
-        &self,
-        ordinal: u64,
-        worker: &mut u64,
-        call: &mut Call,
-        reply: &mut Reply,
-    ) -> u32 {
-        // SAFETY: it is open and lent to queries alone; each pointer is that of a reference or of a slice with that length.
-        unsafe { pidtab_record_entry(&*self.held, ordinal, worker, call, reply) }
-    }
-
-    pub(crate) fn read(&self, from: u64, entries: &mut [Entry], count: &mut usize) -> u32 {
-        // SAFETY: it is open and lent to queries alone; each pointer is that of a reference or of a slice with that length.
-        unsafe {
-            pidtab_record_read(
-                &*self.held,
-                from,
-                entries.as_mut_ptr(),
-                entries.len(),
-                count,
-            )
-        }
-    }
-
-    pub(crate) fn replay(&mut self, saved: &[Entry], place: &mut usize) -> u32 {
-        // SAFETY: it is open and lent to this call alone; each pointer is that of a reference or of a slice with that length.
-        unsafe { pidtab_record_replay(&mut *self.held, saved.as_ptr(), saved.len(), place) }
-    }
-
-    pub(crate) fn keep(&mut self, keep: u64) -> u32 {
-        // SAFETY: it is open and lent to this call alone; each pointer is that of a reference or of a slice with that length.
-        unsafe { pidtab_record_keep(&mut *self.held, keep) }
-    }
-
-    pub(crate) fn checkpoint(&mut self) -> u32 {
-        // SAFETY: it is open and lent to this call alone; each pointer is that of a reference or of a slice with that length.
-        unsafe { pidtab_record_checkpoint(&mut *self.held) }
-    }
-
-    pub(crate) fn checkpoint_at(&mut self, seen: u64) -> u32 {
-        // SAFETY: it is open and lent to this call alone; each pointer is that of a reference or of a slice with that length.
-        unsafe { pidtab_record_checkpoint_at(&mut *self.held, seen) }
-    }
-
-    pub(crate) fn list(&self, bytes: &mut [u8], size: &mut usize) -> u32 {
-        // SAFETY: it is open and lent to queries alone; each pointer is that of a reference or of a slice with that length.
-        unsafe { pidtab_record_list(&*self.held, bytes.as_mut_ptr().cast(), bytes.len(), size) }
-    }
-
-    pub(crate) fn opening(&self, bytes: &mut [u8], size: &mut usize) -> u32 {
-        // SAFETY: it is open and lent to queries alone; each pointer is that of a reference or of a slice with that length.
-        unsafe { pidtab_record_opening(&*self.held, bytes.as_mut_ptr().cast(), bytes.len(), size) }
-    }
-
-    pub(crate) fn dump(&self, bytes: &mut [u8], size: &mut usize) -> u32 {
-        // SAFETY: it is open and lent to queries alone; each pointer is that of a reference or of a slice with that length.
-        unsafe { pidtab_record_dump(&*self.held, bytes.as_mut_ptr().cast(), bytes.len(), size) }
-    }
-
-    pub(crate) fn load(text: &[u8], counts: &[u64], fault: &mut Fault) -> Result<Record, u32> {
-        compare_versions();
-        let mut held = Held::none();
-        // SAFETY: the first pointer is to a struct of zeroes that is this call's alone; each other is that of a reference or of a slice.
-        let status = unsafe {
-            pidtab_record_load(
-                &mut *held,
-                text.as_ptr().cast(),
-                text.len(),
-                counts.as_ptr(),
-                counts.len(),
-                fault,
-            )
-        };
-        done(status, Record { held })
-    }
-    // The end of methods of a record.
-
-    /// As in a forked child, where the thread whose call was under way is not.
-    #[cfg(test)]
-    pub(crate) fn mark(&self, in_call: bool) {
-        let mark = if in_call { u8::MAX } else { 0 };
-        self.held.in_use.store(mark, Ordering::Relaxed);
-    }
-}
-
-impl Drop for Record {
-    fn drop(&mut self) {
-        // SAFETY: the record is lent to this call alone; one that is not open stays so. No other thread is in it, so it is closed.
-        unsafe { pidtab_record_close(&mut *self.held) };
-    }
 }
 
 /// Writes the head of a saved history: how many bytes it has. It begins the running checksum.
@@ -1168,7 +606,7 @@ pub(crate) fn take_head(bytes: &[u8], size: &mut usize, sum: &mut u64) -> Result
 
 /// Reads an entry of a saved history from the front of the bytes, with the place for its size, or for that of its first wrong block.
 pub(crate) fn take_entry(bytes: &[u8], size: &mut usize, sum: &mut u64) -> Result<Entry, u32> {
-    let (at, length, mut entry) = (bytes.as_ptr().cast(), bytes.len(), Entry::blank());
+    let (at, length, mut entry) = (bytes.as_ptr().cast(), bytes.len(), Entry::BLANK);
     // SAFETY: as above.
     let status = unsafe { pidtab_saved_take(at, length, &mut entry, size, sum) };
     done(status, entry)
@@ -1182,7 +620,7 @@ pub(crate) fn next_entry(
     sum: &mut u64,
     left_out: &mut u64,
 ) -> Result<Entry, u32> {
-    let (at, length, mut entry) = (bytes.as_ptr().cast(), bytes.len(), Entry::blank());
+    let (at, length, mut entry) = (bytes.as_ptr().cast(), bytes.len(), Entry::BLANK);
     // SAFETY: as above.
     let status = unsafe { pidtab_saved_next(at, length, is_end, &mut entry, size, sum, left_out) };
     done(status, entry)

@@ -1,11 +1,13 @@
-//! A saved history: the calls of a `Shared` with their replies, as bytes. `docs/SAVED.md` has their form, and the functions of
+//! A saved history: the calls of a table with their replies, as bytes. `docs/SAVED.md` has their form, and the functions of
 //! `pidtab_saved.h` that work in memory write and read it. No lock is held while a writer is waited for.
-use crate::{raw, Error, Options, Shared};
+use crate::table::BATCH;
+use crate::threads::Lock;
+use crate::{raw, Error, Keep, Options, Table};
 use std::fs::File;
 use std::io::{self, Read, Seek, SeekFrom, Write};
 use std::{fmt, slice};
 
-/// How far a history is saved, for [`Shared::save`]: what a writer was given, and the running checksum. Each writer has its own.
+/// How far a history is saved, for [`Table::save`]: what a writer was given, and the running checksum. Each writer has its own.
 ///
 /// It begins as [`Saved::new`], or as what a load has found. It cannot be cloned, so no call is saved twice to one writer.
 #[derive(Debug, Default)]
@@ -83,7 +85,7 @@ impl Saved {
         mut read: impl FnMut(u64, &mut [raw::Entry]) -> Result<usize, Error>,
     ) -> Result<(), SavedFault> {
         let most = recorded.saturating_sub(self.calls).min(TURN as u64);
-        let mut room = vec![raw::Entry::blank(); most as usize];
+        let mut room = vec![raw::Entry::BLANK; most as usize];
         while self.calls < recorded {
             let count = read(self.calls, &mut room)?;
             let mut entries = room[..count].chunks(BATCH);
@@ -141,60 +143,60 @@ impl Saved {
 /// How many entries are read under the lock at a time: a thread that saves has to wait for it among all that make calls.
 const TURN: usize = 512;
 
-/// How many are written at a time.
-const BATCH: usize = 64;
-
-impl Shared {
+impl Table {
     /// Writes the calls that were recorded since, and perhaps some that are recorded meanwhile; to a new [`Saved`] the head comes first. So what
     /// is saved is always the history up to one moment. Other threads make calls meanwhile: the lock is held while up to 512 entries are copied,
-    /// and for no write. At the end it flushes the writer, and wakes those in [`Shared::wait_saved`].
+    /// and for no write. At the end it flushes the writer, and wakes those in [`Table::wait_saved`].
     ///
     /// ```
-    /// use pidtab::{Calls, Saved, Shared};
+    /// use pidtab::{Keep, Saved, Table};
     ///
-    /// let shared = Shared::open(32768, 1)?;
+    /// let table = Table::options().keep(Keep::All).open()?;
     /// let (mut saved, mut bytes) = (Saved::new(), Vec::new());
-    /// shared.seat()?.fork(1, true)?;
-    /// shared.save(&mut saved, &mut bytes)?;
-    /// let (again, loaded) = Shared::load(&bytes[..], 0)?;
+    /// table.fork_new(1)?;
+    /// table.save(&mut saved, &mut bytes)?;
+    /// let (again, loaded) = Table::options().keep(Keep::All).load(&bytes[..])?;
     /// assert_eq!((loaded.calls(), loaded.bytes()), (1, 96));
-    /// assert_eq!(again.list()?, shared.list()?);
+    /// assert_eq!(again.list()?, table.list()?);
     /// # Ok::<(), std::io::Error>(())
     /// ```
     ///
     /// What a `File` was given survives the process, and after `File::sync_data` the machine. A call that is saved may be cut, by
-    /// [`Shared::checkpoint_at`] with [`Saved::calls`].
+    /// [`Table::checkpoint_at`] with [`Saved::calls`].
     ///
     /// # Errors
     /// `Io`: after it, the next save to the same writer goes on with the byte that is missing, so nothing is lost or doubled. Short and
     /// interrupted writes are gone on with. `Table(NotKept)` where the next call to be saved was cut away, and of a
-    /// table that [`Shared::from_dump`] made. `OtherTable`; `Torn` where a load
-    /// has left out a torn end that is not trimmed; `Table(Busy)`.
+    /// table that [`Options::open_dump`] made. `OtherTable`; `Torn` where a load
+    /// has left out a torn end that is not trimmed; `Table(NoHistory)`; `Table(Busy)`, also where this thread has the lock by [`Table::lock`].
     pub fn save<W: Write>(&self, saved: &mut Saved, mut to: W) -> Result<(), SavedError> {
+        let lock = match self.threads() {
+            Err(Error::NoThreads) => None,
+            found => Some(found.map_err(|error| saved.error(error.into()))?),
+        };
         let done = self.save_on(saved, &mut to);
-        self.told_of(saved, done)
+        told_of(lock, saved, done)
     }
 
     /// The saver of a table that threads work on, in a thread of its own. It saves, sleeps until a call is recorded, and begins again, until
-    /// [`Shared::end_saving`]. Each turn ends with `sync`, as `File::sync_data`, so one sync serves all that wait: only after it a turn's calls
+    /// [`Table::end_saving`]. Each turn ends with `sync`, as `File::sync_data`, so one sync serves all that wait: only after it a turn's calls
     /// count as saved. Where `keep` is not 0, it cuts the history whenever that has so many entries: all others wait while the last entries are
     /// written and the kept ones made once more.
     ///
     /// ```
-    /// use pidtab::{Calls, Error, Saved, Shared};
+    /// use pidtab::{Keep, Saved, Table};
     /// use std::thread;
     ///
-    /// let shared = Shared::open(32768, 8)?;
+    /// let table = Table::options().keep(Keep::All).threads().open()?;
     /// let (mut saved, mut bytes) = (Saved::new(), Vec::new());
-    /// shared.bound_unsaved(4096);
+    /// table.bound_unsaved(4096)?;
     /// thread::scope(|scope| {
-    ///     let saver = scope.spawn(|| shared.serve(&mut saved, &mut bytes, 0, || Ok(())));
-    ///     let mut seat = shared.seat()?;
-    ///     let child = seat.fork(1, false)?;
+    ///     let saver = scope.spawn(|| table.serve(&mut saved, &mut bytes, 0, || Ok(())));
+    ///     let child = table.fork(1)?;
     ///     // Here it is saved.
-    ///     shared.wait_saved(0)?;
+    ///     table.wait_saved(0)?;
     ///     assert_eq!(child.number, 2);
-    ///     shared.end_saving();
+    ///     table.end_saving()?;
     ///     saver.join().expect("no panic")?;
     ///     Ok::<(), std::io::Error>(())
     /// })?;
@@ -203,8 +205,8 @@ impl Shared {
     /// ```
     ///
     /// # Errors
-    /// Those of [`Shared::save`], and `Io` of the sync. Who waits has them too. It may be called again; but after a sync of a `File` that failed,
-    /// nobody knows what the disk has: load it.
+    /// Those of [`Table::save`], `Table(NoThreads)`, and `Io` of the sync. Who waits has them too. It may be called again; but after a sync of a `File`
+    /// that failed, nobody knows what the disk has: load it.
     pub fn serve<W: Write>(
         &self,
         saved: &mut Saved,
@@ -212,6 +214,8 @@ impl Shared {
         keep: u64,
         mut sync: impl FnMut() -> io::Result<()>,
     ) -> Result<(), SavedError> {
+        let lock = self.threads();
+        let lock = lock.map_err(|error| saved.error(error.into()))?;
         let (mut has_ended, mut is_last) = (false, false);
         // One turn more after the end, for what was recorded before it.
         while !is_last {
@@ -219,58 +223,60 @@ impl Shared {
             let mut done = self.save_on(saved, &mut to);
             done = done.and_then(|()| self.cut_saved(saved, &mut to, keep));
             done = done.and_then(|()| Ok(sync()?));
-            self.told_of(saved, done)?;
-            let ended = self.sleep_until_call(saved.calls);
+            told_of(Some(lock), saved, done)?;
+            let ended = self.sleep_until_call(lock, saved.calls);
             has_ended = ended.map_err(|error| saved.error(error.into()))?;
         }
         Ok(())
     }
 
-    /// Waits until the call with the ordinal is saved: after the [`Shared::save`], the load or the turn of [`Shared::serve`] that has it. Each of
+    /// Waits until the call with the ordinal is saved: after the [`Table::save`], the load or the turn of [`Table::serve`] that has it. Each of
     /// these wakes all that wait. It costs a lock, and a sleep where the call is not saved yet.
     ///
     /// # Errors
-    /// Those of the saver's last turn, at once until a turn does better: whether the call is saved is not known. `Ended`. Before the first turn it
-    /// waits.
+    /// Those of the saver's last turn, at once until a turn does better: whether the call is saved is not known. `Ended`; `Table(NoThreads)`; `Table(Busy)`
+    /// where this thread has the lock by [`Table::lock`]. Before the first turn it waits.
     pub fn wait_saved(&self, ordinal: u64) -> Result<(), SavedError> {
-        self.wait_told(ordinal)
+        let lock = self.threads();
+        let lock = lock.map_err(|error| Saved::new().error(error.into()))?;
+        let mut saving = lock.changes();
+        loop {
+            if saving.saved > ordinal {
+                return Ok(());
+            }
+            if let Some(fault) = &saving.fault {
+                return Err(fault.again());
+            }
+            saving = lock.wait_for_saver(saving);
+        }
     }
 
-    /// From now on at most so many calls are recorded and not saved; 0, as at first, is any number. A call of a [`Seat`](crate::Seat) that would be
-    /// one more waits for the saver, as [`Shared::wait_saved`] does. Where the saver's last turn failed, or it has ended, it is not made, and is
-    /// [`Error::Unsaved`]. The thread that saves makes no call then, and calls under a lock wait for nobody.
-    pub fn bound_unsaved(&self, most: u64) {
-        self.tell(|saving| saving.most = most);
+    /// From now on at most so many calls are recorded and not saved; 0, as at first, is any number. A call that would be one more waits for the saver, as
+    /// [`Table::wait_saved`] does. Where the saver's last turn failed, or it has ended, it is not made, and is [`Error::Unsaved`]. The thread that
+    /// saves makes no call then, and calls under [`Table::lock`] wait for nobody.
+    ///
+    /// # Errors
+    /// `NoThreads`, `NoHistory`; `Busy` where this thread has the lock by [`Table::lock`].
+    pub fn bound_unsaved(&self, most: u64) -> Result<(), Error> {
+        let lock = self.threads()?;
+        self.counts()?;
+        lock.tell(|saving| saving.most = most);
+        Ok(())
     }
 
-    /// Ends the saver, for good: [`Shared::serve`] saves what was recorded, and returns. What waits, or comes to wait, for a call that is not saved
+    /// Ends the saver, for good: [`Table::serve`] saves what was recorded, and returns. What waits, or comes to wait, for a call that is not saved
     /// is `Ended`. So it is called when no thread waits any more.
-    pub fn end_saving(&self) {
-        self.tell(|saving| {
+    ///
+    /// # Errors
+    /// `NoThreads`; `Busy` where this thread has the lock by [`Table::lock`].
+    pub fn end_saving(&self) -> Result<(), Error> {
+        let lock = self.threads()?;
+        lock.tell(|saving| {
             saving.has_ended = true;
             saving.fault = Some(Saved::new().error(SavedFault::Ended));
         });
-        self.wake_sleepers();
-    }
-
-    /// Makes a table of a saved history, which is read to its end. It is opened with the settings of the head, no seat is given, and each call
-    /// is made again, and its reply compared with the saved one. It costs what the calls cost.
-    ///
-    /// A torn end, which is that of a writer that was stopped, is left out: [`Saved::left_out`] has its length. Where `keep` is not 0, the
-    /// history keeps at most so many entries while it loads; later it is not cut.
-    ///
-    /// # Errors
-    /// With the place of the call at fault: `Torn`, `NotSaved`, `OtherVersion`, `WrongByte`, `Settings`; `Table(Differs)` where its reply is
-    /// another one, and `Table` with `OutOfRange`, `Spent` or `NoMemory` where it was not made; `Io` where a read failed.
-    ///
-    /// # Panics
-    /// As [`Shared::open`].
-    pub fn load<R: Read>(from: R, keep: u64) -> Result<(Shared, Saved), SavedError> {
-        let mut saved = Saved::new();
-        match load_into(&mut saved, from, keep) {
-            Ok(shared) => Ok((shared, saved)),
-            Err(fault) => Err(saved.error(fault)),
-        }
+        lock.wake();
+        Ok(())
     }
 
     fn save_on(&self, saved: &mut Saved, to: &mut impl Write) -> Result<(), SavedFault> {
@@ -280,18 +286,15 @@ impl Shared {
         if saved.is_torn {
             return Err(SavedFault::Torn);
         }
-        if self.goes_on {
-            return Err(Error::NotKept.into());
-        }
         let counts = self.counts()?;
-        if saved.calls < counts.first_kept {
+        if self.goes_on || saved.calls < counts.first_kept {
             return Err(Error::NotKept.into());
         }
         saved.table = self.number;
         if saved.bytes == 0 {
             saved.write_head(&self.head, to)?;
         }
-        let read = |from, room: &mut [raw::Entry]| self.look_first().read_numbers(from, room);
+        let read = |from, room: &mut [raw::Entry]| self.read_numbers(from, room);
         saved.write_up_to(counts.recorded, to, read)
     }
 
@@ -302,95 +305,138 @@ impl Shared {
         to: &mut impl Write,
         keep: u64,
     ) -> Result<(), SavedFault> {
-        let mut record = self.lock();
-        let counts = record.counts()?;
-        if keep == 0 || counts.recorded - counts.first_kept < keep {
+        if keep == 0 {
             return Ok(());
         }
-        let read = |from, room: &mut [raw::Entry]| record.read_numbers(from, room);
+        let held = self.lock()?;
+        let counts = held.counts()?;
+        if counts.recorded - counts.first_kept < keep {
+            return Ok(());
+        }
+        let read = |from, room: &mut [raw::Entry]| held.read_numbers(from, room);
         saved.write_up_to(counts.recorded, to, read)?;
-        let _ = record.checkpoint();
+        let _ = held.checkpoint();
         Ok(())
     }
 
-    /// Tells all that wait how far the saver is. What ended is not taken back.
-    fn told_of(&self, saved: &Saved, done: Result<(), SavedFault>) -> Result<(), SavedError> {
-        let done = done.map_err(|fault| saved.error(fault));
-        self.tell(|saving| {
-            if done.is_ok() {
-                saving.saved = saved.calls;
-            }
-            if !saving.has_ended {
-                saving.fault = done.as_ref().err().map(SavedError::again);
-            }
-        });
-        done
+    /// Sleeps until a call is recorded that is not among so many. Whether the saver has ended.
+    fn sleep_until_call(&self, lock: &Lock, calls: u64) -> Result<bool, Error> {
+        let mut saving = lock.changes();
+        while !saving.has_ended && self.recorded()? <= calls {
+            saving = lock.sleep(saving, None);
+        }
+        Ok(saving.has_ended)
     }
 }
 
+/// Tells all that wait how far the saver is. What ended is not taken back.
+fn told_of(
+    lock: Option<&Lock>,
+    saved: &Saved,
+    done: Result<(), SavedFault>,
+) -> Result<(), SavedError> {
+    let done = done.map_err(|fault| saved.error(fault));
+    let Some(lock) = lock else {
+        return done;
+    };
+    lock.tell(|saving| {
+        if done.is_ok() {
+            saving.saved = saved.calls;
+        }
+        if !saving.has_ended {
+            saving.fault = done.as_ref().err().map(SavedError::again);
+        }
+    });
+    done
+}
+
 impl Options {
-    /// As [`Shared::load`], from the beginning of a file, which then goes on: a torn end is cut off, and the file's position is its end.
+    /// Makes a table of a saved history, which is read to its end. It is opened with the settings of the head, no seat is given, and each call
+    /// is made again, and its reply compared with the saved one. It costs what the calls cost.
     ///
-    /// A file that is empty, or ends within its head, is begun, and the table has these options. Those of another file are its own. After
-    /// this, [`Options::keep`] is never used: no call is cut unasked that is not saved.
-    ///
-    /// The file is opened to be read and to be written. One process at a time has it.
-    ///
-    /// ```no_run
-    /// use pidtab::{Calls, Shared};
-    /// use std::fs::OpenOptions;
-    ///
-    /// let mut options = OpenOptions::new();
-    /// let file = options.read(true).write(true).create(true).truncate(false).open("history")?;
-    /// let (shared, mut saved) = Shared::options(32768, 4).resume(&file)?;
-    /// shared.seat()?.fork(1, true)?;
-    /// shared.save(&mut saved, &file)?;
-    /// # Ok::<(), std::io::Error>(())
-    /// ```
+    /// A torn end, which is that of a writer that was stopped, is left out: [`Saved::left_out`] has its length. With a bound of [`Options::keep`], the
+    /// history keeps at most so many entries while it loads. Later it is not cut unasked, as the calls may not be saved.
     ///
     /// # Errors
-    /// Those of a load except for `Torn`; `Table(OutOfRange)` for options outside their ranges; `Io` where the file cannot be written or cut too.
+    /// With the place of the call at fault: `Torn`, `NotSaved`, `OtherVersion`, `WrongByte`, `Settings`; `Table(Differs)` where its reply is
+    /// another one, and `Table` with `OutOfRange`, `Spent` or `NoMemory` where it was not made; `Io` where a read failed. `Table(NoHistory)` where
+    /// [`Options::keep`] keeps none.
     ///
     /// # Panics
     /// As [`Options::open`].
-    pub fn resume(self, file: &File) -> Result<(Shared, Saved), SavedError> {
+    pub fn load<R: Read>(self, from: R) -> Result<(Table, Saved), SavedError> {
         let mut saved = Saved::new();
-        match self.resume_into(&mut saved, file) {
-            Ok(shared) => Ok((shared, saved)),
+        match self.load_into(&mut saved, from) {
+            Ok(table) => Ok((table, saved)),
             Err(fault) => Err(saved.error(fault)),
         }
     }
 
-    fn resume_into(self, saved: &mut Saved, mut file: &File) -> Result<Shared, SavedFault> {
+    /// As [`Options::load`], from the beginning of a file, which then goes on: a torn end is cut off, and the file's position is its end.
+    ///
+    /// A file that is empty, or ends within its head, is begun, and the table has these options. Those of another file are its own.
+    ///
+    /// The file is opened to be read and to be written. One process at a time has it.
+    ///
+    /// ```no_run
+    /// use pidtab::{Keep, Table};
+    /// use std::fs::OpenOptions;
+    ///
+    /// let mut options = OpenOptions::new();
+    /// let file = options.read(true).write(true).create(true).truncate(false).open("history")?;
+    /// let (table, mut saved) = Table::options().keep(Keep::All).workers(4).resume(&file)?;
+    /// table.fork_new(1)?;
+    /// table.save(&mut saved, &file)?;
+    /// # Ok::<(), std::io::Error>(())
+    /// ```
+    ///
+    /// # Errors
+    /// Those of a load except for `Torn`; `Table(Argument)` for options outside their ranges; `Io` where the file cannot be written or cut too.
+    ///
+    /// # Panics
+    /// As [`Options::open`].
+    pub fn resume(self, file: &File) -> Result<(Table, Saved), SavedError> {
+        let mut saved = Saved::new();
+        match self.resume_into(&mut saved, file) {
+            Ok(table) => Ok((table, saved)),
+            Err(fault) => Err(saved.error(fault)),
+        }
+    }
+
+    fn resume_into(self, saved: &mut Saved, mut file: &File) -> Result<Table, SavedFault> {
         file.rewind()?;
-        let shared = match load_into(saved, file, self.keep) {
-            Err(SavedFault::Torn) => self.keep(0).open()?,
+        let table = match self.load_into(saved, file) {
+            Err(SavedFault::Torn) => self.keep(Keep::All).open()?,
             loaded => loaded?,
         };
         saved.trim(file)?;
-        shared.save_on(saved, &mut file)?;
-        Ok(shared)
+        table.save_on(saved, &mut file)?;
+        Ok(table)
     }
-}
 
-/// Opens a table by the head, and makes the calls after it.
-fn load_into(saved: &mut Saved, from: impl Read, keep: u64) -> Result<Shared, SavedFault> {
-    let mut input = Input::of(from);
-    let head = input.take_head(saved)?;
-    let options = Shared::options(head.pid_max, head.workers).first_stamp(head.first_stamp);
-    let shared = options.keep(keep).open()?;
-    saved.table = shared.number;
-    let mut record = shared.lock();
-    while let Some((entry, size)) = input.take_entry(saved)? {
-        let made = record.make_again(slice::from_ref(&entry));
-        made.map_err(|stopped| stopped.error)?;
-        saved.calls += 1;
-        saved.bytes += size as u64;
+    /// Opens a table by the head, and makes the calls after it.
+    fn load_into(self, saved: &mut Saved, from: impl Read) -> Result<Table, SavedFault> {
+        if self.keep.entries() == 0 {
+            return Err(Error::NoHistory.into());
+        }
+        let mut input = Input::of(from);
+        let head = input.take_head(saved)?;
+        let keep = Keep::All;
+        let table = Options { head, keep, ..self }.open()?;
+        saved.table = table.number;
+        while let Some((entry, size)) = input.take_entry(saved)? {
+            let made = table.make_again(slice::from_ref(&entry));
+            made.map_err(|stopped| stopped.error)?;
+            // What keeps the history short is the load alone. More than one entry too many there is never.
+            let _ = table.raw.keep(self.keep.entries());
+            saved.calls += 1;
+            saved.bytes += size as u64;
+        }
+        if let Some(lock) = &table.lock {
+            lock.tell(|saving| saving.saved = saved.calls);
+        }
+        Ok(table)
     }
-    record.never_cut();
-    record.saving.saved = saved.calls;
-    drop(record);
-    Ok(shared)
 }
 
 /// The bytes of a saved history that were read, of which so many are taken.
@@ -522,7 +568,7 @@ pub enum SavedFault {
     /// The saver has ended, and whether the call is saved is not known.
     Ended,
     /// Of a load: `Differs` where the reply is not the saved one; `OutOfRange` where there is no such call or worker, `Spent`, `NoMemory`. Of
-    /// a save: `NotKept` where the call was cut away before it was saved. `Busy`.
+    /// a save: `NotKept` where the call was cut away before it was saved. `NoHistory`, `NoThreads`, `Busy`.
     Table(Error),
 }
 

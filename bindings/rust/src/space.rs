@@ -62,7 +62,7 @@ pub(crate) fn inside(
 #[cfg(test)]
 mod tests {
     use super::*;
-    use crate::{Calls, Table, Which};
+    use crate::{Table, Which};
 
     fn told(id: u64, parent: Option<u64>, level: u32, init: u32, fallen: bool) -> SpaceStat {
         SpaceStat {
@@ -77,13 +77,13 @@ mod tests {
     /// The ids are the numbers of calls. 2 is the init of 1, and 3 that of 2 within it. 4 is that of 3, in which is 5, a child of the root init.
     #[test]
     fn each_field_and_each_end() {
-        let mut table = Table::open(32768).expect("a table");
+        let table = Table::open(32768).expect("a table");
         assert_eq!(table.space(1), Ok(None));
-        table.fork(1, true).expect("a child");
-        table.fork(2, true).expect("a child");
-        table.fork(1, true).expect("a child");
+        table.fork_new(1).expect("a child");
+        table.fork_new(2).expect("a child");
+        table.fork_new(1).expect("a child");
         table.join(1, 4).expect("a namespace");
-        table.fork(1, false).expect("a child");
+        table.fork(1).expect("a child");
         let all = [
             told(0, None, 0, 1, false),
             told(1, Some(0), 1, 2, false),
@@ -113,11 +113,11 @@ mod tests {
     /// The namespaces 1 and 3 are in the root, and 2 in 1. The control group 5 is in 4.
     #[test]
     fn each_tree() {
-        let mut table = Table::open(32768).expect("a table");
+        let table = Table::open(32768).expect("a table");
         assert_eq!(table.spaces_inside(0, 0), Ok(Some(vec![])));
-        table.fork(1, true).expect("a child");
-        table.fork(2, true).expect("a child");
-        table.fork(1, true).expect("a child");
+        table.fork_new(1).expect("a child");
+        table.fork_new(2).expect("a child");
+        table.fork_new(1).expect("a child");
         assert_eq!([table.mk(0), table.mk(4)], [Ok(4), Ok(5)]);
         for (id, from, wanted) in [(0, 0, &[1, 3][..]), (0, 2, &[3]), (1, 0, &[2]), (3, 0, &[])] {
             assert_eq!(table.spaces_inside(id, from), Ok(Some(wanted.to_vec())));
@@ -138,7 +138,7 @@ mod tests {
 
     #[test]
     fn more_than_there_is_room_for_at_first() {
-        let mut table = Table::open(32768).expect("a table");
+        let table = Table::open(32768).expect("a table");
         for count in 0..3 * SHORT as u64 {
             let made: Vec<_> = (1..=count).collect();
             assert_eq!(table.controls_inside(0, 0), Ok(Some(made)));
@@ -162,25 +162,22 @@ mod tests {
     #[test]
     fn beside_a_writer() {
         const FORKS: usize = 300;
-        let shared = crate::Shared::open(32768, 1).expect("a table");
+        let table = Table::options().threads().open().expect("a table");
         std::thread::scope(|scope| {
             for _ in 0..3 {
                 scope.spawn(|| {
                     let mut before = 0;
                     while before < FORKS {
-                        let ids = shared
-                            .spaces_inside(0, 0)
-                            .expect("a read")
-                            .expect("the root");
+                        let ids = table.spaces_inside(0, 0).expect("a read");
+                        let ids = ids.expect("the root");
                         assert!(ids.len() >= before);
                         assert!((1..).zip(&ids).all(|(wanted, id)| wanted == *id));
                         before = ids.len();
                     }
                 });
             }
-            let mut seat = shared.seat().expect("a seat");
             for _ in 0..FORKS {
-                seat.fork(1, true).expect("a child");
+                table.fork_new(1).expect("a child");
             }
         });
     }

@@ -97,14 +97,14 @@ impl fmt::Debug for Stat {
 #[cfg(test)]
 mod tests {
     use super::*;
-    use crate::{Calls, Table};
+    use crate::Table;
 
     /// The task 3,2 of the worked list of docs/SCRIPT.md, and a zombie.
     #[test]
     fn a_task_and_a_zombie() {
-        let mut table = Table::open(32768).expect("a table");
-        table.fork(1, true).expect("a child");
-        table.fork(2, false).expect("a child");
+        let table = Table::open(32768).expect("a table");
+        table.fork_new(1).expect("a child");
+        table.fork(2).expect("a child");
         let task = table.stat(1, 3).expect("a task");
         assert_eq!((task.numbers(), task.space()), (&[3, 2][..], 1));
         assert_eq!((task.parent(), task.group(), task.session()), (2, 1, 1));

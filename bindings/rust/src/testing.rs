@@ -103,7 +103,7 @@ pub fn compare(
 ) -> Option<Different> {
     let forms = select(names);
     assert!(!forms.is_empty(), "no call has one of these names");
-    let mut table = Table::open(PID_MAX).expect("a table");
+    let table = Table::open(PID_MAX).expect("a table");
     let mut script = Vec::new();
     for step in data.chunks_exact(STEP) {
         let listing = table.listing().expect("a list");

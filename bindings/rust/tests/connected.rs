@@ -1,5 +1,5 @@
 //! The table of a service by [`Connected`], beside one in this process. It needs the built service; without it each test says so, and passes.
-use pidtab::{Call, Calls, Child, Connected, Ended, Error, Kind, Reaped, Reply, Table, Which};
+use pidtab::{Call, Child, Connected, Ended, Error, Kind, Reaped, Reply, Table, Which};
 use std::path::PathBuf;
 use std::process::{self, Command};
 use std::sync::atomic::{AtomicU32, Ordering};
@@ -151,7 +151,7 @@ fn random_calls() {
         return;
     };
     let (mut table, mut dice) = (service.connect(), Dice(9));
-    let mut beside = Table::open(400).expect("a table");
+    let beside = Table::open(400).expect("a table");
     let mut kinds = [0; 10];
     for turn in 0..6000u64 {
         let call = dice.call();
@@ -189,7 +189,7 @@ fn leases_and_what_is_not_served() {
     };
     let (mut table, mut other) = (one.connect(), one.connect());
     assert_eq!(other.lease("rig", Duration::ZERO), Ok(()));
-    assert_eq!(other.fork(1, false), Ok(Child { number: 2, root: 2 }));
+    assert_eq!(other.fork(1), Ok(Child { number: 2, root: 2 }));
     assert_eq!(other.lease("a b", Duration::ZERO), Err(Error::NotServed));
     assert_eq!(other.why(), "ERR syntax: LEASE NAME TTL");
     let too_long = other.lease("rig", Duration::from_secs(86_401));
@@ -206,7 +206,7 @@ fn leases_and_what_is_not_served() {
         return;
     };
     let mut follower = two.connect();
-    assert_eq!(follower.fork(1, false), Err(Error::NotServed));
+    assert_eq!(follower.fork(1), Err(Error::NotServed));
     assert!(
         follower.why().starts_with("READONLY this follows "),
         "{}",
@@ -222,13 +222,13 @@ fn a_killed_child() {
         return;
     };
     let mut table = service.connect();
-    assert_eq!(table.fork(1, false), Ok(Child { number: 2, root: 2 }));
-    assert_eq!(table.fork(1, true), Ok(Child { number: 3, root: 3 }));
+    assert_eq!(table.fork(1), Ok(Child { number: 2, root: 2 }));
+    assert_eq!(table.fork_new(1), Ok(Child { number: 3, root: 3 }));
     assert_eq!(
         (table.join(2, 3), table.wait(2, Which::Any).is_err()),
         (Ok(()), true)
     );
-    assert_eq!(table.fork(2, false), Ok(Child { number: 4, root: 4 }));
+    assert_eq!(table.fork(2), Ok(Child { number: 4, root: 4 }));
     assert_eq!(
         (table.wait(2, Which::Any), table.exit(3, 0)),
         (Ok(None), Ok(()))
@@ -252,7 +252,7 @@ fn threads_that_share_one() {
         for _ in 0..8 {
             scope.spawn(|| {
                 for _ in 0..100 {
-                    let child = lock().fork(1, false).expect("a child");
+                    let child = lock().fork(1).expect("a child");
                     assert_eq!(lock().getpid(child.root), Ok(child.root));
                 }
             });
@@ -273,7 +273,7 @@ fn a_peer_that_is_silent() {
         .set_timeout(Some(Duration::from_millis(200)))
         .expect("a timeout");
     service.signal("-STOP");
-    assert_eq!(table.fork(1, false), Err(Error::Disconnected));
+    assert_eq!(table.fork(1), Err(Error::Disconnected));
     service.signal("-CONT");
     assert_eq!(table.getpid(1), Err(Error::Disconnected));
     assert!(!table.why().is_empty());
@@ -292,7 +292,7 @@ fn a_peer_that_dies() {
     let mut table = service.connect();
     service.signal("-STOP");
     thread::scope(|scope| {
-        let told = scope.spawn(|| (table.fork(1, false), table.getpid(1)));
+        let told = scope.spawn(|| (table.fork(1), table.getpid(1)));
         thread::sleep(Duration::from_millis(100));
         service.process.kill().expect("it is there");
         let wanted = (Err(Error::Disconnected), Err(Error::Disconnected));

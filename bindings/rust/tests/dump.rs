@@ -1,5 +1,5 @@
 //! A table that is made of a text, beside the one that was never saved. What is written and loaded is in interface/cases.
-use pidtab::{Calls, Error, Saved, SavedFault, Shared, Table};
+use pidtab::{Error, Keep, Saved, SavedFault, Table};
 
 const TEXT: &str = "pidtab table 1 pid-max 32768 stamp 7
 task 1@0 parent - group 1@0 session 1@0 control 0 children 0 live
@@ -40,14 +40,14 @@ impl Chance {
 }
 
 #[test]
-fn calls_behind_it() {
+fn calls_after_it() {
     let mut chance = Chance(40);
     for _ in 0..10 {
-        let mut table = Table::open(301).expect("a table");
+        let table = Table::open(301).expect("a table");
         for _ in 0..300 {
             table.line(chance.line()).expect("an answer");
         }
-        let mut again = Table::from_dump(table.dump().expect("a text")).expect("a table");
+        let again = Table::from_dump(table.dump().expect("a text")).expect("a table");
         for _ in 0..300 {
             let line = chance.line();
             assert_eq!(again.line(&line), table.line(&line), "{line}");
@@ -60,9 +60,10 @@ fn calls_behind_it() {
 #[test]
 fn it_is_saved_to_no_writer() {
     for counts in [[0], [6]] {
-        let shared = Shared::from_dump(TEXT, &counts, 0).expect("a table");
+        let options = Table::options().keep(Keep::All);
+        let table = options.open_dump(TEXT, &counts).expect("a table");
         let (mut saved, mut bytes) = (Saved::new(), Vec::new());
-        let refused = shared.save(&mut saved, &mut bytes).expect_err("no save");
+        let refused = table.save(&mut saved, &mut bytes).expect_err("no save");
         assert!(matches!(refused.fault, SavedFault::Table(Error::NotKept)));
         assert!(bytes.is_empty());
     }
@@ -70,11 +71,12 @@ fn it_is_saved_to_no_writer() {
 
 #[test]
 fn it_cuts_what_it_has() {
-    let shared = Shared::from_dump(TEXT, &[0], 2).expect("a table");
-    let mut seat = shared.seat().expect("a seat");
+    let options = Table::options().keep(2);
+    let table = options.open_dump(TEXT, &[0]).expect("a table");
+    let mut seat = table.seat().expect("a seat");
     for _ in 0..5 {
         assert_eq!(seat.getpid(1), Ok(1));
     }
-    let counts = shared.counts().expect("counts");
+    let counts = table.counts().expect("counts");
     assert_eq!((counts.first_kept, counts.recorded), (3, 5));
 }

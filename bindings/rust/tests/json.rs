@@ -1,10 +1,10 @@
 //! What methods answer as JSON, tasks and namespaces. Replies are in interface/cases.
-use pidtab::{Calls, Ended, Error, Reaped, Refusal, SpaceStat, Table};
+use pidtab::{Ended, Error, Reaped, Refusal, SpaceStat, Table};
 
 #[test]
 fn answers() {
-    let mut table = Table::open(32768).expect("a table");
-    let child = table.fork(1, true).expect("a child");
+    let table = Table::open(32768).expect("a table");
+    let child = table.fork_new(1).expect("a child");
     assert_eq!(child.to_json(), r#"{"child":2,"root":2}"#);
     let ends = [(Ended::Exited(255), "255"), (Ended::Killed, "null")];
     for (ended, status) in ends {
@@ -28,8 +28,8 @@ fn answers() {
 
 #[test]
 fn tasks() {
-    let mut table = Table::open(32768).expect("a table");
-    table.fork(1, true).expect("a child");
+    let table = Table::open(32768).expect("a table");
+    table.fork_new(1).expect("a child");
     let told = table.stat(1, 2).expect("a task").to_json();
     let wanted = r#"{"numbers":[2,1],"root":2,"parent":1,"group":1,"session":1,"space":1,"control":0,"state":"live","status":null,"executed":false,"subreaper":false}"#;
     assert_eq!(told, wanted);
@@ -45,8 +45,8 @@ fn tasks() {
 
 #[test]
 fn namespaces() {
-    let mut table = Table::open(32768).expect("a table");
-    table.fork(1, true).expect("a child");
+    let table = Table::open(32768).expect("a table");
+    table.fork_new(1).expect("a child");
     table.exit(2, 0).expect("an end");
     for (id, wanted) in [
         (

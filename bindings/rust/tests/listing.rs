@@ -131,7 +131,7 @@ fn lists_are_read_whole() {
 
 #[test]
 fn the_list_of_a_table() {
-    let mut table = Table::open(32768).expect("a table");
+    let table = Table::open(32768).expect("a table");
     for line in [
         "fork 1 new",
         "fork 2",

@@ -44,7 +44,7 @@ fn play(scripts: &str) -> String {
     for script in scripts.split("# ").skip(1) {
         let (head, lines) = script.split_once('\n').expect("a head");
         let words: Vec<_> = head.split(' ').collect();
-        let mut table = Table::open(words[1].parse().expect("pid_max")).expect("a table");
+        let table = Table::open(words[1].parse().expect("pid_max")).expect("a table");
         told += &format!("# {head}\n");
         for line in lines.lines() {
             match table.line(line) {
@@ -104,7 +104,7 @@ fn the_example_of_the_page() {
 
 #[test]
 fn the_examples_print_what_is_said_at_their_ends() {
-    for name in ["dump", "saved", "shared"] {
+    for name in ["dump", "saved", "threads"] {
         let code = read(&format!("bindings/rust/examples/{name}.rs"));
         let (_, end) = code
             .split_once("\n// It prints\n//\n")

@@ -1,6 +1,6 @@
 //! A saved history: its bytes are those of docs/SAVED.md, it loads as what was saved, and what is wrong with it is said with its place. The
 //! writers and readers are short, interrupted, and fail after each byte.
-use pidtab::{Calls, Entry, Error, Saved, SavedError, SavedFault, Seat, Shared};
+use pidtab::{Entry, Error, Keep, Options, Saved, SavedError, SavedFault, Seat, Table};
 use std::fs::{self, File, OpenOptions};
 use std::io::{self, Read, Seek, SeekFrom, Write};
 use std::net::Shutdown;
@@ -73,23 +73,27 @@ fn page_bytes() -> Vec<u8> {
         .collect()
 }
 
-fn open(workers: u32) -> Shared {
-    Shared::open(32768, workers).expect("a table")
+fn options(workers: u32) -> Options {
+    Table::options().keep(Keep::All).workers(workers).threads()
 }
 
-fn ask(seat: &mut Seat<'_>, lines: &[&str]) {
+fn open(workers: u32) -> Table {
+    options(workers).open().expect("a table")
+}
+
+fn ask(seat: &mut Seat<&Table>, lines: &[&str]) {
     for line in lines {
         seat.line(line).expect("an answer");
     }
 }
 
 /// A table with the calls of the example.
-fn example() -> Shared {
-    let shared = open(2);
-    ask(&mut shared.seat().expect("a seat"), &["fork 1 new"]);
+fn example() -> Table {
+    let table = open(2);
+    ask(&mut table.seat().expect("a seat"), &["fork 1 new"]);
     let lines = ["nspid 1 2", "setpgid 1 0 -1"];
-    ask(&mut shared.seat().expect("a seat"), &lines);
-    shared
+    ask(&mut table.seat().expect("a seat"), &lines);
+    table
 }
 
 /// Calls of each kind, good and refused; with replies of one block to three, where a task is in seventeen namespaces.
@@ -130,42 +134,42 @@ const LINES: [&str; 33] = [
 ];
 
 /// A table with calls of each kind, of two workers, and their bytes.
-fn whole() -> (Shared, Vec<u8>) {
-    let shared = open(2);
-    let mut seat = shared.seat().expect("a seat");
+fn whole() -> (Table, Vec<u8>) {
+    let table = open(2);
+    let mut seat = table.seat().expect("a seat");
     for number in 1..DEEP {
-        seat.fork(number, true).expect("a child");
+        seat.fork_new(number).expect("a child");
     }
-    ask(&mut shared.seat().expect("a seat"), &LINES);
-    let bytes = bytes_of(&shared);
-    (shared, bytes)
+    ask(&mut table.seat().expect("a seat"), &LINES);
+    let bytes = bytes_of(&table);
+    (table, bytes)
 }
 
-fn save(shared: &Shared, saved: &mut Saved, to: impl Write) {
-    shared.save(saved, to).expect("a save");
+fn save(table: &Table, saved: &mut Saved, to: impl Write) {
+    table.save(saved, to).expect("a save");
 }
 
 /// What a new save writes.
-fn bytes_of(shared: &Shared) -> Vec<u8> {
+fn bytes_of(table: &Table) -> Vec<u8> {
     let mut bytes = Vec::new();
-    save(shared, &mut Saved::new(), &mut bytes);
+    save(table, &mut Saved::new(), &mut bytes);
     bytes
 }
 
-fn load(bytes: &[u8]) -> (Shared, Saved) {
-    Shared::load(bytes, 0).expect("a table")
+fn load(bytes: &[u8]) -> (Table, Saved) {
+    options(1).load(bytes).expect("a table")
 }
 
 /// Why the bytes do not load.
 fn fault_of(bytes: &[u8]) -> SavedError {
-    Shared::load(bytes, 0).map(|_| ()).expect_err("a fault")
+    options(1).load(bytes).map(|_| ()).expect_err("a fault")
 }
 
-fn entries(shared: &Shared) -> Vec<Entry> {
-    shared.entries(0, usize::MAX).expect("entries")
+fn entries(table: &Table) -> Vec<Entry> {
+    table.entries(0, usize::MAX).expect("entries")
 }
 
-fn same(one: &Shared, other: &Shared) {
+fn same(one: &Table, other: &Table) {
     assert_eq!(entries(one), entries(other));
     assert_eq!(one.list(), other.list());
     for worker in 0..one.workers() {
@@ -231,11 +235,11 @@ impl Drop for Kept {
 fn the_example_is_written_and_read() {
     assert_eq!(crc(b"123456789"), 0x995d_c9bb_df19_39fa);
     assert_eq!(seal(page_bytes()), page_bytes());
-    let shared = example();
+    let table = example();
     let mut saved = Saved::new();
     assert_eq!(facts(&saved), (0, 0, 0));
     let mut bytes = Vec::new();
-    save(&shared, &mut saved, &mut bytes);
+    save(&table, &mut saved, &mut bytes);
     assert_eq!((facts(&saved), bytes), ((3, 192, 0), page_bytes()));
     let (again, loaded) = load(&page_bytes());
     assert_eq!(facts(&loaded), (3, 192, 0));
@@ -244,12 +248,12 @@ fn the_example_is_written_and_read() {
         (32768, 2, 1)
     );
     assert_eq!(again.seat().expect("a seat").worker(), 0);
-    same(&again, &shared);
+    same(&again, &table);
 }
 
 #[test]
 fn calls_of_each_kind() {
-    let (shared, bytes) = whole();
+    let (table, bytes) = whole();
     assert_eq!(seal(bytes.clone()), bytes);
     let ends = places(&bytes);
     let sizes: Vec<_> = ends.windows(2).map(|it| (it[1] - it[0]) / BLOCK).collect();
@@ -262,17 +266,17 @@ fn calls_of_each_kind() {
         facts(&saved),
         (ends.len() as u64 - 1, bytes.len() as u64, 0)
     );
-    same(&again, &shared);
+    same(&again, &table);
 }
 
 /// An append is what one save writes, and a loaded table goes on as the saved one.
 #[test]
 fn what_goes_on_is_what_one_table_saves() {
-    let (shared, bytes) = whole();
+    let (table, bytes) = whole();
     let (one, mut saved, mut file) = (open(2), Saved::new(), Vec::new());
     let (mut seat, mut other) = (one.seat().expect("a seat"), one.seat().expect("a seat"));
     for number in 1..DEEP {
-        seat.fork(number, true).expect("a child");
+        seat.fork_new(number).expect("a child");
         save(&one, &mut saved, &mut file);
         save(&one, &mut saved, &mut file);
     }
@@ -283,13 +287,13 @@ fn what_goes_on_is_what_one_table_saves() {
     ask(&mut again.seat().expect("a seat"), &LINES[5..]);
     save(&again, &mut loaded, &mut file);
     assert_eq!(file, bytes);
-    same(&again, &shared);
+    same(&again, &table);
 }
 
 #[test]
 fn cut_at_each_byte() {
-    let (shared, bytes) = whole();
-    let (ends, all) = (places(&bytes), entries(&shared));
+    let (table, bytes) = whole();
+    let (ends, all) = (places(&bytes), entries(&table));
     for length in 0..bytes.len() {
         if length < BLOCK {
             let fault = fault_of(&bytes[..length]);
@@ -312,12 +316,12 @@ fn cut_at_each_byte() {
 
 #[test]
 fn a_file_that_is_cut_at_each_byte_goes_on() {
-    let (shared, bytes) = whole();
+    let (table, bytes) = whole();
     let (ends, kept) = (places(&bytes), Kept::new(&[]));
     for length in (0..bytes.len()).step_by(7) {
         fs::write(&kept.path, &bytes[..length]).expect("a file");
         let file = kept.open();
-        let (again, mut saved) = Shared::options(32768, 2).resume(&file).expect("a table");
+        let (again, mut saved) = options(2).resume(&file).expect("a table");
         let calls = ends
             .iter()
             .filter(|it| **it <= length)
@@ -333,17 +337,14 @@ fn a_file_that_is_cut_at_each_byte_goes_on() {
             )
         );
         assert_eq!(kept.bytes(), &bytes[..whole.max(BLOCK)]);
-        make_again(&again, &entries(&shared)[calls..]);
+        make_again(&again, &entries(&table)[calls..]);
         save(&again, &mut saved, &file);
         assert_eq!(kept.bytes(), bytes);
     }
 }
 
-fn make_again(shared: &Shared, entries: &[Entry]) {
-    let mut seats = [
-        shared.seat().expect("a seat"),
-        shared.seat().expect("a seat"),
-    ];
+fn make_again(table: &Table, entries: &[Entry]) {
+    let mut seats = [table.seat().expect("a seat"), table.seat().expect("a seat")];
     for entry in entries {
         let _ = seats[entry.worker as usize].call(entry.call);
     }
@@ -357,9 +358,7 @@ fn zeroes_at_the_end() {
         longer.resize(bytes.len() + zeroes, 0);
         assert_eq!(load(&longer).1.left_out(), zeroes as u64);
         let kept = Kept::new(&longer);
-        Shared::options(32768, 2)
-            .resume(&kept.open())
-            .expect("a table");
+        options(2).resume(&kept.open()).expect("a table");
         assert_eq!(kept.bytes(), bytes);
         if zeroes > 48 {
             longer.push(1);
@@ -466,11 +465,11 @@ fn heads_of_no_table() {
 
 #[test]
 fn entries_that_are_cut_as_they_load() {
-    let shared = open(1);
-    let mut seat = shared.seat().expect("a seat");
+    let table = open(1);
+    let mut seat = table.seat().expect("a seat");
     ask(&mut seat, &["fork 1"; 100]);
-    let bytes = bytes_of(&shared);
-    let (again, mut saved) = Shared::load(&bytes[..], 10).expect("a table");
+    let bytes = bytes_of(&table);
+    let (again, mut saved) = options(1).keep(10).load(&bytes[..]).expect("a table");
     let counts = again.counts().expect("counts");
     assert_eq!((counts.first_kept, counts.recorded), (90, 100));
     ask(&mut again.seat().expect("a seat"), &["fork 1"; 20]);
@@ -478,7 +477,7 @@ fn entries_that_are_cut_as_they_load() {
     assert_eq!(again.counts().expect("counts").first_kept, 90);
     let mut more = Vec::new();
     save(&again, &mut saved, &mut more);
-    assert_eq!([bytes, more].concat(), bytes_of(&shared));
+    assert_eq!([bytes, more].concat(), bytes_of(&table));
 }
 
 /// A device: it moves a byte at a time, each second try is interrupted, and after so many bytes it fails.
@@ -531,40 +530,40 @@ fn is_of_the_device(fault: &SavedError) -> bool {
 /// After a write that failed at each byte, the next save goes on with the same byte, also where calls came between.
 #[test]
 fn a_writer_that_fails_after_each_byte() {
-    let (shared, bytes) = whole();
+    let (table, bytes) = whole();
     let places = places(&bytes);
     for length in 0..bytes.len() {
         let (mut file, mut saved) = (Vec::new(), Saved::new());
-        let failed = shared.save(&mut saved, Device::new(&mut file, length));
+        let failed = table.save(&mut saved, Device::new(&mut file, length));
         let failed = failed.expect_err("a fault");
         assert!(is_of_the_device(&failed) && failed.bytes == saved.bytes());
         assert_eq!(file, &bytes[..length]);
         let whole = places.iter().filter(|it| **it <= length).count();
         assert_eq!(saved.calls() as usize, whole.saturating_sub(1));
-        save(&shared, &mut saved, Device::new(&mut file, usize::MAX));
+        save(&table, &mut saved, Device::new(&mut file, usize::MAX));
         assert!(file == bytes && facts(&saved).1 == bytes.len() as u64);
     }
 }
 
 #[test]
 fn a_writer_that_fails_amid_calls() {
-    let shared = open(1);
-    let mut seat = shared.seat().expect("a seat");
+    let table = open(1);
+    let mut seat = table.seat().expect("a seat");
     let (mut file, mut saved) = (Vec::new(), Saved::new());
     for length in 0..200 {
         ask(&mut seat, &["fork 1", "nspid 1 1", "getpid 1"]);
-        let _ = shared.save(&mut saved, Device::new(&mut file, length % 11 * 13));
+        let _ = table.save(&mut saved, Device::new(&mut file, length % 11 * 13));
     }
-    save(&shared, &mut saved, &mut file);
-    assert_eq!((file, saved.calls()), (bytes_of(&shared), 600));
+    save(&table, &mut saved, &mut file);
+    assert_eq!((file, saved.calls()), (bytes_of(&table), 600));
 }
 
 /// A writer that takes nothing is a fault, and no loop.
 #[test]
 fn a_writer_that_takes_nothing() {
     let mut room = [0; 100];
-    let shared = example();
-    let failed = shared
+    let table = example();
+    let failed = table
         .save(&mut Saved::new(), &mut room[..])
         .expect_err("a fault");
     assert!(matches!(&failed.fault, SavedFault::Io(it) if it.kind() == io::ErrorKind::WriteZero));
@@ -574,13 +573,15 @@ fn a_writer_that_takes_nothing() {
 
 #[test]
 fn a_reader_that_fails_after_each_byte() {
-    let (shared, bytes) = whole();
+    let (table, bytes) = whole();
     for left in 0..bytes.len() {
-        let failed = Shared::load(Device::new(&bytes[..], left), 0).map(|_| ());
+        let failed = options(1).load(Device::new(&bytes[..], left)).map(|_| ());
         assert!(is_of_the_device(&failed.expect_err("a fault")));
     }
-    let (again, _) = Shared::load(Device::new(&bytes[..], usize::MAX), 0).expect("a table");
-    same(&again, &shared);
+    let (again, _) = options(1)
+        .load(Device::new(&bytes[..], usize::MAX))
+        .expect("a table");
+    same(&again, &table);
 }
 
 #[test]
@@ -595,14 +596,14 @@ fn what_is_saved_of_another_table() {
 
 #[test]
 fn calls_that_were_cut_away() {
-    let shared = example();
+    let table = example();
     let (mut saved, mut bytes) = (Saved::new(), Vec::new());
-    save(&shared, &mut saved, &mut bytes);
-    shared.checkpoint_at(saved.calls()).expect("a cut");
-    save(&shared, &mut saved, &mut bytes);
+    save(&table, &mut saved, &mut bytes);
+    table.checkpoint_at(saved.calls()).expect("a cut");
+    save(&table, &mut saved, &mut bytes);
     assert_eq!(bytes, page_bytes());
     let mut none = Vec::new();
-    let failed = shared
+    let failed = table
         .save(&mut Saved::new(), &mut none)
         .expect_err("a fault");
     assert!(matches!(failed.fault, SavedFault::Table(Error::NotKept)) && none.is_empty());
@@ -612,38 +613,36 @@ fn calls_that_were_cut_away() {
 fn a_torn_end_that_is_not_trimmed() {
     let kept = Kept::new(&[&page_bytes()[..], b"torn"].concat());
     let mut file = kept.open();
-    let (shared, mut saved) = Shared::load(&file, 0).expect("a table");
-    ask(&mut shared.seat().expect("a seat"), &["getpid 1"]);
-    let failed = shared.save(&mut saved, &file).expect_err("a fault");
+    let (table, mut saved) = options(1).load(&file).expect("a table");
+    ask(&mut table.seat().expect("a seat"), &["getpid 1"]);
+    let failed = table.save(&mut saved, &file).expect_err("a fault");
     assert!(matches!(failed.fault, SavedFault::Torn) && saved.left_out() == 4);
     file.seek(SeekFrom::Start(0)).expect("a place");
     saved.trim(&file).expect("a cut");
-    save(&shared, &mut saved, &file);
-    assert_eq!(kept.bytes(), bytes_of(&shared));
+    save(&table, &mut saved, &file);
+    assert_eq!(kept.bytes(), bytes_of(&table));
 }
 
 #[test]
 fn files_that_are_begun() {
     let kept = Kept::new(&[]);
-    let options = Shared::options(400, 3).first_stamp(9).keep(1);
-    let (shared, mut saved) = options.resume(&kept.open()).expect("a table");
+    let fresh = options(3).pid_max(400).first_stamp(9).keep(1);
+    let (table, mut saved) = fresh.resume(&kept.open()).expect("a table");
     assert_eq!(facts(&saved), (0, 48, 0));
     let mut file = kept.open();
     file.seek(SeekFrom::End(0)).expect("a place");
-    assert_eq!(shared.seat().expect("a seat").mk(0), Ok(9));
-    save(&shared, &mut saved, &file);
+    assert_eq!(table.seat().expect("a seat").mk(0), Ok(9));
+    save(&table, &mut saved, &file);
     // The settings of the file are its own.
-    let (again, saved) = Shared::options(32768, 2)
-        .resume(&kept.open())
-        .expect("a table");
+    let (again, saved) = options(2).resume(&kept.open()).expect("a table");
     assert_eq!(
         (again.pid_max(), again.workers(), again.first_stamp()),
         (400, 3, 9)
     );
     assert_eq!(facts(&saved), (1, 96, 0));
-    for options in [Shared::options(300, 1), Shared::options(32768, 17)] {
+    for outside in [options(1).pid_max(300), options(17)] {
         let empty = Kept::new(b"\x89pid");
-        let failed = options
+        let failed = outside
             .resume(&empty.open())
             .map(|_| ())
             .expect_err("a fault");
@@ -659,8 +658,8 @@ fn files_that_are_begun() {
 fn what_is_no_file() {
     let folder = File::open(env::temp_dir()).expect("a folder");
     let device = |failed: SavedError| matches!(failed.fault, SavedFault::Io(_));
-    assert!(Shared::load(&folder, 0).map(|_| ()).is_err_and(device));
-    let resumed = Shared::options(32768, 2).resume(&folder);
+    assert!(options(1).load(&folder).map(|_| ()).is_err_and(device));
+    let resumed = options(2).resume(&folder);
     assert!(resumed.map(|_| ()).is_err_and(device));
     let full = File::options()
         .write(true)
@@ -674,7 +673,7 @@ fn what_is_no_file() {
     for bytes in [&[][..], &page_bytes()[..100]] {
         let kept = Kept::new(bytes);
         let file = File::open(&kept.path).expect("a file");
-        let resumed = Shared::options(32768, 2).resume(&file);
+        let resumed = options(2).resume(&file);
         assert!(resumed.map(|_| ()).is_err_and(device));
         assert_eq!(kept.bytes(), bytes);
     }
@@ -688,7 +687,7 @@ fn a_file_that_does_not_load_stays_as_it_is() {
         [page_bytes(), vec![1; 48]].concat(),
     ] {
         let kept = Kept::new(&bytes);
-        assert!(Shared::options(32768, 2).resume(&kept.open()).is_err());
+        assert!(options(2).resume(&kept.open()).is_err());
         assert_eq!(kept.bytes(), bytes);
     }
 }
@@ -714,12 +713,12 @@ impl Write for Slow<'_> {
 
 #[test]
 fn a_slow_writer_stops_nobody() {
-    let shared = example();
+    let table = example();
     let ((asked, asks), (answers, answered)) = (mpsc::channel(), mpsc::channel());
     thread::scope(|scope| {
         scope.spawn(|| {
             for () in asks {
-                shared.counts().expect("counts");
+                table.counts().expect("counts");
                 answers.send(()).expect("a writer");
             }
         });
@@ -728,7 +727,7 @@ fn a_slow_writer_stops_nobody() {
             answered: &answered,
             bytes: Vec::new(),
         };
-        save(&shared, &mut Saved::new(), &mut slow);
+        save(&table, &mut Saved::new(), &mut slow);
         assert_eq!(slow.bytes, page_bytes());
     });
 }
@@ -736,12 +735,12 @@ fn a_slow_writer_stops_nobody() {
 /// Each save amid the calls of others is a history of one moment, and at last it is that of the table.
 #[test]
 fn saves_amid_calls() {
-    let shared = open(8);
+    let table = open(8);
     let file = Mutex::new((Saved::new(), Vec::new()));
     thread::scope(|scope| {
         for _ in 0..8 {
             scope.spawn(|| {
-                let mut seat = shared.seat().expect("a seat");
+                let mut seat = table.seat().expect("a seat");
                 ask(&mut seat, &["fork 1", "getpid 1", "nspid 1 1"].repeat(300));
             });
         }
@@ -750,19 +749,19 @@ fn saves_amid_calls() {
                 for _ in 0..50 {
                     let mut file = file.lock().expect("no panic");
                     let (saved, bytes) = &mut *file;
-                    save(&shared, saved, &mut *bytes);
+                    save(&table, saved, &mut *bytes);
                     assert_eq!(saved.bytes(), bytes.len() as u64);
                     drop(file);
-                    let alone = bytes_of(&shared);
+                    let alone = bytes_of(&table);
                     assert_eq!(load(&alone).1.left_out(), 0);
                 }
             });
         }
     });
     let (mut saved, mut bytes) = file.into_inner().expect("no panic");
-    save(&shared, &mut saved, &mut bytes);
-    assert_eq!((saved.calls(), &bytes), (7200, &bytes_of(&shared)));
-    same(&load(&bytes).0, &shared);
+    save(&table, &mut saved, &mut bytes);
+    assert_eq!((saved.calls(), &bytes), (7200, &bytes_of(&table)));
+    same(&load(&bytes).0, &table);
 }
 
 /// Of the C library.
@@ -783,10 +782,10 @@ mod c {
 /// A forked process has a copy of the table, and goes on with it as the other one does: what each saves is its own history.
 #[test]
 fn a_forked_process_saves_its_copy() {
-    let shared = open(2);
-    ask(&mut shared.seat().expect("a seat"), &["fork 1 new"]);
+    let table = open(2);
+    ask(&mut table.seat().expect("a seat"), &["fork 1 new"]);
     let (mut saved, mut bytes) = (Saved::new(), Vec::new());
-    save(&shared, &mut saved, &mut bytes);
+    save(&table, &mut saved, &mut bytes);
     let copy = Kept::new(&bytes);
     let mut file = copy.open();
     file.seek(SeekFrom::End(0)).expect("the end");
@@ -794,16 +793,16 @@ fn a_forked_process_saves_its_copy() {
     let child = unsafe { c::fork() };
     assert!(child >= 0);
     if child == 0 {
-        let made = shared.seat().map(|mut seat| seat.line("fork 2").is_ok());
-        let done = made == Ok(true) && shared.save(&mut saved, &mut file).is_ok();
+        let made = table.seat().map(|mut seat| seat.line("fork 2").is_ok());
+        let done = made == Ok(true) && table.save(&mut saved, &mut file).is_ok();
         unsafe { c::_exit(i32::from(!done)) }
     }
     let mut status = -1;
     assert_eq!(unsafe { c::waitpid(child, &mut status, 0) }, child);
     assert_eq!(status, 0);
-    ask(&mut shared.seat().expect("a seat"), &["getpid 2"]);
-    save(&shared, &mut saved, &mut bytes);
-    assert_eq!(bytes, bytes_of(&shared));
+    ask(&mut table.seat().expect("a seat"), &["getpid 2"]);
+    save(&table, &mut saved, &mut bytes);
+    assert_eq!(bytes, bytes_of(&table));
     let twin = open(2);
     ask(&mut twin.seat().expect("a seat"), &["fork 1 new"]);
     ask(&mut twin.seat().expect("a seat"), &["fork 2"]);
@@ -839,8 +838,8 @@ impl Write for Counted<'_> {
 /// Signals interrupt the writes to a device that takes no more, twenty of them at least, and nothing is lost or doubled.
 #[test]
 fn signals_amid_a_write() {
-    let shared = open(1);
-    ask(&mut shared.seat().expect("a seat"), &["getpid 1"; 8000]);
+    let table = open(1);
+    ask(&mut table.seat().expect("a seat"), &["getpid 1"; 8000]);
     let (near, mut far) = UnixStream::pair().expect("two ends");
     let interrupted = AtomicU32::new(0);
     let ((name, names), (end, ends)) = (mpsc::channel(), mpsc::channel::<()>());
@@ -850,14 +849,14 @@ fn signals_amid_a_write() {
     }
     let mut bytes = Vec::new();
     thread::scope(|scope| {
-        let (shared, interrupted) = (&shared, &interrupted);
+        let (table, interrupted) = (&table, &interrupted);
         let saver = scope.spawn(move || {
             name.send(unsafe { c::pthread_self() }).expect("a reader");
             let to = Counted {
                 to: &near,
                 interrupted,
             };
-            save(shared, &mut Saved::new(), to);
+            save(table, &mut Saved::new(), to);
             near.shutdown(Shutdown::Both).expect("an end");
             // A signal to a thread that has ended would be no signal.
             let _ = ends.recv();
@@ -871,7 +870,7 @@ fn signals_amid_a_write() {
         drop(end);
     });
     assert!(SIGNALS.load(Ordering::Relaxed) >= 20);
-    assert_eq!(bytes, bytes_of(&shared));
+    assert_eq!(bytes, bytes_of(&table));
 }
 
 /// The folder of the library of these tests, and the repository.
@@ -903,7 +902,7 @@ fn run(command: &mut Command, bytes: &[u8]) -> Option<Vec<u8>> {
 #[test]
 fn c_reads_what_is_written_here() {
     let (out, top) = folders();
-    let (shared, bytes) = whole();
+    let (table, bytes) = whole();
     let code = read_page("bindings/c/examples/lines.c");
     let program = Kept::new(&[]);
     let mut compile = Command::new("cc");
@@ -924,7 +923,7 @@ fn c_reads_what_is_written_here() {
     let wanted = (u64::from(DEEP) - 1..).zip(LINES);
     let wanted: Vec<_> = wanted.map(|it| format!("{} 1 {}", it.0, it.1)).collect();
     assert_eq!(told, wanted);
-    assert_eq!(entries(&shared).len(), DEEP as usize - 1 + LINES.len());
+    assert_eq!(entries(&table).len(), DEEP as usize - 1 + LINES.len());
 }
 
 /// Python writes the same bytes, and loads those of here.
@@ -932,12 +931,12 @@ const PYTHON: &str = "
 import sys, pidtab
 path, wanted = sys.argv[1], sys.stdin.buffer.read()
 open(path, 'wb').write(wanted)
-with pidtab.Shared.load(path) as loaded, pidtab.Shared(2) as shared:
-    seats = [shared.seat(), shared.seat()]
+with pidtab.Table.load(path) as loaded, pidtab.Table(keep=pidtab.ALL, workers=2) as table:
+    seats = [table.seat(), table.seat()]
     for it in loaded.entries():
         seats[it.worker].answers([it.line])
-    assert list(shared.entries()) == list(loaded.entries())
-    shared.save(path + ' again')
+    assert list(table.entries()) == list(loaded.entries())
+    table.save(path + ' again')
 sys.stdout.buffer.write(open(path + ' again', 'rb').read())
 ";
 

@@ -1,5 +1,5 @@
 //! The saver of a table that threads work on: who waits for it, whom it holds up, and that busy threads let it have the lock.
-use pidtab::{Call, Calls, Error, LineError, Saved, SavedFault, Seat, Shared};
+use pidtab::{Call, Error, Keep, LineError, Saved, SavedFault, Seat, Table};
 use std::fs;
 use std::io::{self, Write};
 use std::sync::atomic::{AtomicBool, AtomicU32, AtomicU64, Ordering};
@@ -55,26 +55,27 @@ impl Write for Broken {
     }
 }
 
-fn open() -> Shared {
-    Shared::open(32768, THREADS).expect("a table")
+fn open() -> Table {
+    let options = Table::options().keep(Keep::All).workers(THREADS);
+    options.threads().open().expect("a table")
 }
 
 /// Makes a call that is one block: its ordinal.
-fn ask(seat: &mut Seat<'_>) -> u64 {
+fn ask(seat: &mut Seat<&Table>) -> u64 {
     assert_eq!(seat.getpid(1), Ok(1));
     seat.ordinal().expect("an ordinal")
 }
 
 /// The threads do it at once beside the saver, which ends after them: how many calls are saved.
-fn beside_the_saver(shared: &Shared, disk: &Disk, keep: u64, does: impl Fn() + Sync) -> u64 {
+fn beside_the_saver(table: &Table, disk: &Disk, keep: u64, does: impl Fn() + Sync) -> u64 {
     let mut saved = Saved::new();
     thread::scope(|scope| {
-        let saver = scope.spawn(|| shared.serve(&mut saved, disk, keep, || disk.sync()));
+        let saver = scope.spawn(|| table.serve(&mut saved, disk, keep, || disk.sync()));
         let works: Vec<_> = (0..THREADS).map(|_| scope.spawn(&does)).collect();
         works
             .into_iter()
             .for_each(|it| it.join().expect("no panic"));
-        shared.end_saving();
+        table.end_saving().expect("a lock");
         saver.join().expect("no panic").expect("saved");
     });
     saved.calls()
@@ -83,16 +84,16 @@ fn beside_the_saver(shared: &Shared, disk: &Disk, keep: u64, does: impl Fn() + S
 /// Each call is after a sync when it is answered. No thread has more than one that is not, so a cut leaves as many as there are threads.
 #[test]
 fn each_answer_is_on_the_disk() {
-    let (shared, disk) = (open(), Disk::default());
-    let calls = beside_the_saver(&shared, &disk, KEEP, || {
-        let mut seat = shared.seat().expect("a seat");
+    let (table, disk) = (open(), Disk::default());
+    let calls = beside_the_saver(&table, &disk, KEEP, || {
+        let mut seat = table.seat().expect("a seat");
         for _ in 0..EACH {
             let ordinal = ask(&mut seat);
-            shared.wait_saved(ordinal).expect("saved");
+            table.wait_saved(ordinal).expect("saved");
             assert!(disk.calls() > ordinal);
         }
     });
-    let counts = shared.counts().expect("counts");
+    let counts = table.counts().expect("counts");
     assert_eq!((calls, counts.recorded), (u64::from(THREADS) * EACH, calls));
     assert!(counts.recorded - counts.first_kept < KEEP + u64::from(THREADS));
 }
@@ -100,10 +101,10 @@ fn each_answer_is_on_the_disk() {
 /// A call was made when at most so many were not saved; by now more may be.
 #[test]
 fn never_too_far() {
-    let (shared, disk) = (open(), Disk::default());
-    shared.bound_unsaved(BOUND);
-    let calls = beside_the_saver(&shared, &disk, 0, || {
-        let mut seat = shared.seat().expect("a seat");
+    let (table, disk) = (open(), Disk::default());
+    table.bound_unsaved(BOUND).expect("a lock");
+    let calls = beside_the_saver(&table, &disk, 0, || {
+        let mut seat = table.seat().expect("a seat");
         for _ in 0..EACH {
             assert!(ask(&mut seat) < disk.calls() + BOUND);
         }
@@ -111,16 +112,16 @@ fn never_too_far() {
     assert_eq!(calls, u64::from(THREADS) * EACH);
 }
 
-/// The same by turns. One that is longer than the bound is made where all is saved.
+/// The same of many calls in one go. More than the bound are made where all is saved.
 #[test]
-fn no_turn_too_far() {
-    let (shared, disk) = (open(), Disk::default());
-    shared.bound_unsaved(BOUND);
-    let calls = beside_the_saver(&shared, &disk, 0, || {
-        let (mut seat, mut replies) = (shared.seat().expect("a seat"), Vec::new());
+fn many_in_one_go_never_too_far() {
+    let (table, disk) = (open(), Disk::default());
+    table.bound_unsaved(BOUND).expect("a lock");
+    let calls = beside_the_saver(&table, &disk, 0, || {
+        let (mut seat, mut replies) = (table.seat().expect("a seat"), Vec::new());
         for length in [1, 7, 2 * BOUND, 3].repeat(EACH as usize / 40) {
-            let turn = vec![Call::Getpid { caller: 1 }; length as usize];
-            assert_eq!(seat.calls(&turn, &mut replies), Ok(()));
+            let calls = vec![Call::Getpid { caller: 1 }; length as usize];
+            assert_eq!(seat.calls(&calls, &mut replies), Ok(()));
             let ordinal = seat.ordinal().expect("an ordinal");
             assert!(ordinal < disk.calls() + length.max(BOUND));
         }
@@ -131,31 +132,32 @@ fn no_turn_too_far() {
 /// What was loaded is saved.
 #[test]
 fn what_was_loaded() {
-    let (shared, mut bytes) = (open(), Vec::new());
-    ask(&mut shared.seat().expect("a seat"));
-    shared.save(&mut Saved::new(), &mut bytes).expect("saved");
-    let (again, _) = Shared::load(&bytes[..], 0).expect("a table");
+    let (table, mut bytes) = (open(), Vec::new());
+    ask(&mut table.seat().expect("a seat"));
+    table.save(&mut Saved::new(), &mut bytes).expect("saved");
+    let options = Table::options().keep(Keep::All).threads();
+    let (again, _) = options.load(&bytes[..]).expect("a table");
     again.wait_saved(0).expect("saved");
 }
 
 /// Who waits has the fault of the saver, at once, until a save does better; and what is too far is not made.
 #[test]
 fn a_saver_that_fails() {
-    let (shared, mut saved) = (open(), Saved::new());
-    let mut seat = shared.seat().expect("a seat");
-    shared.bound_unsaved(1);
+    let (table, mut saved) = (open(), Saved::new());
+    let mut seat = table.seat().expect("a seat");
+    table.bound_unsaved(1).expect("a lock");
     ask(&mut seat);
     let is_full =
         |fault: &SavedFault| matches!(fault, SavedFault::Io(it) if it.raw_os_error() == Some(28));
     thread::scope(|scope| {
-        let waiter = scope.spawn(|| shared.wait_saved(0));
-        let failed = shared.serve(&mut saved, Broken, 0, || Ok(()));
+        let waiter = scope.spawn(|| table.wait_saved(0));
+        let failed = table.serve(&mut saved, Broken, 0, || Ok(()));
         assert!(is_full(&failed.expect_err("a fault").fault));
         assert!(is_full(
             &waiter.join().expect("no panic").expect_err("a fault").fault
         ));
     });
-    assert!(is_full(&shared.wait_saved(0).expect_err("a fault").fault));
+    assert!(is_full(&table.wait_saved(0).expect_err("a fault").fault));
     assert_eq!(seat.getpid(1), Err(Error::Unsaved));
     assert_eq!(seat.line("getpid 1"), Err(LineError::Unsaved));
     let told = seat.told(Call::Getpid { caller: 1 });
@@ -164,39 +166,39 @@ fn a_saver_that_fails() {
         io::Error::from(Error::Unsaved).kind(),
         io::ErrorKind::BrokenPipe
     );
-    assert_eq!(shared.counts().expect("counts").recorded, 1);
+    assert_eq!(table.counts().expect("counts").recorded, 1);
     // A sync that fails: the call is given to the disk, and counts as not saved.
     let lost = || Err(io::Error::from_raw_os_error(5));
     let disk = Disk::default();
-    assert!(shared.serve(&mut saved, &disk, 0, lost).is_err() && saved.calls() == 1);
-    assert!(shared.wait_saved(0).is_err() && disk.calls() == 0);
-    shared.save(&mut saved, &disk).expect("saved");
-    shared.wait_saved(0).expect("saved");
+    assert!(table.serve(&mut saved, &disk, 0, lost).is_err() && saved.calls() == 1);
+    assert!(table.wait_saved(0).is_err() && disk.calls() == 0);
+    table.save(&mut saved, &disk).expect("saved");
+    table.wait_saved(0).expect("saved");
     assert_eq!(ask(&mut seat), 1);
 }
 
 /// A saver that has ended has a turn yet, and then nobody waits for it.
 #[test]
 fn a_saver_that_has_ended() {
-    let (shared, mut saved, mut bytes) = (open(), Saved::new(), Vec::new());
-    let mut seat = shared.seat().expect("a seat");
-    shared.bound_unsaved(1);
+    let (table, mut saved, mut bytes) = (open(), Saved::new(), Vec::new());
+    let mut seat = table.seat().expect("a seat");
+    table.bound_unsaved(1).expect("a lock");
     ask(&mut seat);
     thread::scope(|scope| {
-        let waiter = scope.spawn(|| shared.wait_saved(0));
-        shared.end_saving();
+        let waiter = scope.spawn(|| table.wait_saved(0));
+        table.end_saving().expect("a lock");
         let ended = waiter.join().expect("no panic").expect_err("a fault");
         assert!(matches!(ended.fault, SavedFault::Ended));
         assert_eq!(io::Error::from(ended).kind(), io::ErrorKind::BrokenPipe);
     });
     assert_eq!(seat.getpid(1), Err(Error::Unsaved));
-    shared
+    table
         .serve(&mut saved, &mut bytes, 0, || Ok(()))
         .expect("saved");
     assert_eq!((saved.calls(), bytes.len() as u64), (1, 2 * BLOCK));
-    shared.wait_saved(0).expect("saved");
+    table.wait_saved(0).expect("saved");
     assert!(matches!(
-        shared.wait_saved(1).expect_err("a fault").fault,
+        table.wait_saved(1).expect_err("a fault").fault,
         SavedFault::Ended
     ));
 }
@@ -222,18 +224,18 @@ fn wait_until(holds: impl Fn() -> bool) {
 }
 
 /// All busy threads wait for the lock, and after them one that counts: how many calls come before it.
-fn calls_before_the_count(shared: &Shared, busy: &[AtomicU32]) -> u64 {
+fn calls_before_the_count(table: &Table, busy: &[AtomicU32]) -> u64 {
     let counting = AtomicU32::new(0);
     thread::scope(|scope| {
-        let record = shared.lock();
+        let held = table.lock().expect("the lock");
         wait_until(|| busy.iter().all(is_asleep));
-        let before = record.counts().expect("counts").recorded;
+        let before = held.counts().expect("counts").recorded;
         let counter = scope.spawn(|| {
             tell_task(&counting);
-            shared.counts().expect("counts").recorded
+            table.counts().expect("counts").recorded
         });
         wait_until(|| is_asleep(&counting));
-        drop(record);
+        drop(held);
         counter.join().expect("no panic") - before
     })
 }
@@ -241,11 +243,11 @@ fn calls_before_the_count(shared: &Shared, busy: &[AtomicU32]) -> u64 {
 /// Each of the busy threads makes one call at most, and then waits until the other has counted.
 #[test]
 fn goes_before_busy_threads() {
-    let (shared, is_over) = (open(), AtomicBool::new(false));
+    let (table, is_over) = (open(), AtomicBool::new(false));
     let busy: Vec<_> = (0..THREADS).map(|_| AtomicU32::new(0)).collect();
     let most = thread::scope(|scope| {
         for task in &busy {
-            let mut seat = shared.seat().expect("a seat");
+            let mut seat = table.seat().expect("a seat");
             let is_over = &is_over;
             scope.spawn(move || {
                 tell_task(task);
@@ -255,9 +257,7 @@ fn goes_before_busy_threads() {
             });
         }
         wait_until(|| busy.iter().all(|it| it.load(Ordering::SeqCst) != 0));
-        let found = (0..50)
-            .map(|_| calls_before_the_count(&shared, &busy))
-            .max();
+        let found = (0..50).map(|_| calls_before_the_count(&table, &busy)).max();
         is_over.store(true, Ordering::SeqCst);
         found
     });

@@ -1,5 +1,5 @@
 //! What errors say, what is a line, and threads. What each call answers is in interface/cases.
-use pidtab::{Call, Calls, Child, Error, LineError, Refusal, Reply, Table};
+use pidtab::{Call, Child, Error, LineError, Refusal, Reply, Table};
 use std::sync::Mutex;
 use std::thread;
 
@@ -13,7 +13,7 @@ fn child(number: u32, root: u32) -> Result<Child, Error> {
 
 #[test]
 fn what_errors_say() {
-    let mut table = open();
+    let table = open();
     let fault = table.getpid(9).expect_err("nobody");
     assert_eq!(fault.to_string(), "getpid 9: no-caller (errno 3)");
     assert_eq!(Refusal::NoNumber(0).to_string(), "no-number 0");
@@ -29,7 +29,7 @@ fn what_errors_say() {
 /// A line is text or bytes, and may have any of them.
 #[test]
 fn lines() {
-    let mut table = open();
+    let table = open();
     let line = format!("getpid {}", 9);
     assert_eq!(table.line(b"getpid 9"), Ok("ESRCH no-caller".to_owned()));
     assert_eq!(table.line(&line), table.line(line.into_bytes()));
@@ -39,13 +39,13 @@ fn lines() {
 
 #[test]
 fn a_table_goes_to_another_thread() {
-    let mut table = open();
-    assert_eq!(table.fork(1, false), child(2, 2));
+    let table = open();
+    assert_eq!(table.fork(1), child(2, 2));
     let other = thread::spawn(move || {
-        assert_eq!(table.fork(2, false), child(3, 3));
+        assert_eq!(table.fork(2), child(3, 3));
         table
     });
-    let mut table = other.join().expect("no panic");
+    let table = other.join().expect("no panic");
     assert_eq!(table.getppid(3), Ok(2));
     thread::spawn(move || drop(table)).join().expect("no panic");
 }
@@ -58,7 +58,7 @@ fn eight_threads_take_turns() {
         for _ in 0..8 {
             scope.spawn(|| {
                 for _ in 0..200 {
-                    let made = table.lock().expect("the table").fork(1, false);
+                    let made = table.lock().expect("the table").fork(1);
                     let number = made.expect("a child").number;
                     given.lock().expect("the list").push(number);
                 }
@@ -68,15 +68,15 @@ fn eight_threads_take_turns() {
     let mut given = given.into_inner().expect("the list");
     given.sort_unstable();
     assert_eq!(given, (2..=1601).collect::<Vec<_>>());
-    let mut table = table.into_inner().expect("the table");
+    let table = table.into_inner().expect("the table");
     assert_eq!(table.count(0), Ok(1601));
 }
 
 /// Threads ask one table that none of them owns.
 #[test]
 fn threads_that_ask() {
-    let mut table = open();
-    table.fork(1, false).expect("a child");
+    let table = open();
+    table.fork(1).expect("a child");
     let (table, list) = (&table, table.list());
     thread::scope(|scope| {
         for _ in 0..8 {

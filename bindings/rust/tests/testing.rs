@@ -84,7 +84,7 @@ fn a_bug_is_found() {
     let mut again = Family::new(true);
     let answers: Vec<_> = found.script.iter().map(|it| again.answer(it)).collect();
     assert_eq!(answers.last(), Some(&found.yours));
-    let mut table = Table::open(32768).expect("a table");
+    let table = Table::open(32768).expect("a table");
     let answers: Vec<_> = found.script.iter().map(|it| table.line(it)).collect();
     assert_eq!(answers.last(), Some(&Ok(found.pidtab)));
 }
@@ -98,7 +98,7 @@ fn none_where_there_is_none() {
 fn pidtab_itself_does_not_differ() {
     let mut state = 2;
     for length in 0..120 {
-        let mut table = Table::open(32768).expect("a table");
+        let table = Table::open(32768).expect("a table");
         let mut answer = |line: &str| table.line(line).expect("an answer");
         assert_eq!(
             compare(&bytes(100 + length, &mut state), &mut answer, &[]),

@@ -120,7 +120,8 @@ fn raise_some(
     requires linked { AreLinked nodes.now counters.old.items }
     requires few { levels ≤ (tree_of nodes.now).level home }
     requires room { (k : ℕ) → is_under (tree_of nodes.now) home k ≡ true
-        → (tree_of nodes.now).level home < (tree_of nodes.now).level k + levels → total_at counters.old.items k + 1 < 2 ^ 64 }
+        → (tree_of nodes.now).level home < (tree_of nodes.now).level k + levels
+        → total_at counters.old.items k + 1 < 2 ^ 64 }
     ensures there { ContainsKey nodes.now result }
     ensures level { (tree_of nodes.now).level result + levels ≡ (tree_of nodes.now).level home }
     ensures above { (k : ℕ) → weight (tree_of nodes.now) result k ≤ weight (tree_of nodes.now) home k }

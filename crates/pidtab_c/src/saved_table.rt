@@ -15,8 +15,8 @@ use foreign_numbers::status::{BAD_TEXT, CLOSED, DONE, NO_MEMORY, NO_ROOM, OUT_OF
 use std::alloc::Global;
 
 /// Puts the text of the table, with the stamp of its next call, at the front of the room; `size` is the text's length.
-/// Bytes of the room behind it stay as they are. [`pidtab_load_with`] opens a table as the text says, and refuses none of
-/// these texts: [`foreign_calls::laws::what_is_dumped_loads`].
+/// Bytes of the room behind it stay as they are. [`pidtab_load_with`] opens a table as the text says, and refuses none
+/// of these texts: [`foreign_calls::laws::what_is_dumped_loads`].
 ///
 /// `CLOSED` where there is no open table; `NO_MEMORY`; `NO_ROOM` where the text is longer than the room, and then too
 /// `size` is the text's length. It costs the text, which is held whole before it is put.
@@ -48,8 +48,8 @@ pub extern "C" fn pidtab_dump(
 ///
 /// `BUSY` where it is open already; then, of a history alone, `OUT_OF_RANGE` for no worker or more than 16; then
 /// `BAD_TEXT` where the text has not the form, and `fault` says why by kind 1 or 2; then, of a history alone,
-/// `OUT_OF_RANGE` where the counts add up to the stamp of the text or more, since the first call of all has a stamp of 1
-/// or more; then `BAD_TEXT` where the text is that of no table, by another kind; `NO_MEMORY`. Where the status is not
+/// `OUT_OF_RANGE` where the counts add up to the stamp of the text or more, since the first call of all has a stamp of
+/// 1 or more; then `BAD_TEXT` where the text is that of no table, by another kind; `NO_MEMORY`. Where the status is not
 /// `BAD_TEXT`, `fault` is zeroes. It costs some times what the forks cost that made the tasks, of a history twice.
 /// Whoever opens a table closes it.
 #[unsafe(no_mangle)]

@@ -1,7 +1,7 @@
-//! A table that threads share, and its history: sixteen threads, whose receipts are compared with the history; bounds, replays and locks. What
+//! A table of many threads, and its history: sixteen threads, whose receipts are compared with the history; bounds, replays and locks. What
 //! each function answers is in interface/cases.
 use pidtab::{
-    Call, Calls, Child, Counts, Ended, Entry, Error, Reaped, ReplayError, Reply, Seat, Shared,
+    Call, Child, Counts, Ended, Entry, Error, Keep, Options, Reaped, ReplayError, Reply, Seat,
     Table, Which,
 };
 use std::sync::atomic::{AtomicBool, Ordering};
@@ -13,22 +13,26 @@ const WORKERS: u32 = 16;
 const EACH: usize = 20_000;
 const ALL: u64 = WORKERS as u64 * EACH as u64;
 
-fn open(workers: u32) -> Shared {
-    Shared::open(32768, workers).expect("a table")
+fn options(workers: u32) -> Options {
+    Table::options().keep(Keep::All).workers(workers).threads()
+}
+
+fn open(workers: u32) -> Table {
+    options(workers).open().expect("a table")
 }
 
 /// How far the history goes: the first kept entry, and the recorded calls.
-fn counts(shared: &Shared) -> (u64, u64) {
+fn counts(table: &Table) -> (u64, u64) {
     let Counts {
         first_kept,
         recorded,
         ..
-    } = shared.counts().expect("counts");
+    } = table.counts().expect("counts");
     (first_kept, recorded)
 }
 
 /// Makes the call, and keeps what its worker knows of it.
-fn make(seat: &mut Seat<'_>, receipts: &mut Vec<Entry>, call: Call) -> Reply {
+fn make(seat: &mut Seat<&Table>, receipts: &mut Vec<Entry>, call: Call) -> Reply {
     let reply = seat.call(call).expect("a reply");
     receipts.push(Entry {
         ordinal: seat.ordinal().expect("an ordinal"),
@@ -47,7 +51,7 @@ fn forked(reply: Reply) -> Child {
 }
 
 /// A namespace of the worker's own, and in it one child after the other, which ends with the worker's number. The receipts.
-fn serve(mut seat: Seat<'_>) -> Vec<Entry> {
+fn serve(mut seat: Seat<&Table>) -> Vec<Entry> {
     let (mut receipts, status) = (Vec::new(), seat.worker() as u8);
     let (caller, new_space) = (1, true);
     let own = forked(make(
@@ -80,22 +84,22 @@ fn serve(mut seat: Seat<'_>) -> Vec<Entry> {
 }
 
 /// The receipts of sixteen threads at once.
-fn sixteen_at_once(shared: &Shared) -> Vec<Vec<Entry>> {
+fn sixteen_at_once(table: &Table) -> Vec<Vec<Entry>> {
     thread::scope(|scope| {
         let works: Vec<_> = (0..WORKERS)
-            .map(|_| scope.spawn(|| serve(shared.seat().expect("a seat"))))
+            .map(|_| scope.spawn(|| serve(table.seat().expect("a seat"))))
             .collect();
         let ends = works.into_iter().map(|it| it.join().expect("no panic"));
         ends.collect()
     })
 }
 
-fn the_counts_add_up(shared: &Shared) {
-    assert_eq!(counts(shared), (0, ALL));
+fn the_counts_add_up(table: &Table) {
+    assert_eq!(counts(table), (0, ALL));
     for worker in 0..WORKERS {
-        assert_eq!(shared.worker(worker), Ok(EACH as u64));
+        assert_eq!(table.worker(worker), Ok(EACH as u64));
     }
-    assert_eq!(shared.seat().err(), Some(Error::NoSeat));
+    assert_eq!(table.seat().err(), Some(Error::NoSeat));
 }
 
 /// Each worker's receipts are its entries, in their order.
@@ -111,13 +115,13 @@ fn the_receipts_are_the_entries(history: &[Entry], mut receipts: Vec<Vec<Entry>>
     assert_eq!(next, vec![EACH; WORKERS as usize]);
 }
 
-/// On a second record, and by the calls of one thread on a table without a history: the same replies, and the same list.
+/// On a second table, and by the calls of one thread on a table without a history: the same replies, and the same list.
 fn the_history_replays(history: &[Entry], list: &str) {
     let again = open(WORKERS);
     assert_eq!(again.replay(history), Ok(()));
     assert_eq!(counts(&again), (0, ALL));
     assert_eq!(again.list().as_deref(), Ok(list));
-    let mut table = Table::open(32768).expect("a table");
+    let table = Table::open(32768).expect("a table");
     for entry in history {
         assert_eq!(table.call(entry.call).as_ref(), Ok(&entry.reply));
     }
@@ -125,80 +129,74 @@ fn the_history_replays(history: &[Entry], list: &str) {
 }
 
 #[test]
-fn sixteen_threads_share_a_table() {
-    let shared = open(WORKERS);
-    let receipts = sixteen_at_once(&shared);
-    the_counts_add_up(&shared);
-    let history = shared.entries(0, usize::MAX).expect("entries");
+fn sixteen_threads() {
+    let table = open(WORKERS);
+    let receipts = sixteen_at_once(&table);
+    the_counts_add_up(&table);
+    let history = table.entries(0, usize::MAX).expect("entries");
     assert_eq!(history.len() as u64, ALL);
     the_receipts_are_the_entries(&history, receipts);
-    let list = shared.list().expect("a list");
+    let list = table.list().expect("a list");
     assert!(list.contains("count 17\n"), "{list}");
     the_history_replays(&history, &list);
-    assert_eq!(shared.checkpoint_at(ALL - 1), Err(Error::Again));
+    assert_eq!(table.checkpoint_at(ALL - 1), Err(Error::Again));
     assert_eq!(
-        (shared.checkpoint_at(ALL), counts(&shared)),
+        (table.checkpoint_at(ALL), counts(&table)),
         (Ok(()), (ALL, ALL))
     );
-    assert_eq!(shared.worker(3), Ok(EACH as u64));
+    assert_eq!(table.worker(3), Ok(EACH as u64));
 }
 
-/// With `keep` the history is not longer after a replay either.
+/// With a bound the history is not longer after a replay either.
 #[test]
-fn a_bound_behind_a_replay() {
-    let shared = open(1);
-    let mut seat = shared.seat().expect("a seat");
+fn a_bound_after_a_replay() {
+    let table = open(1);
+    let mut seat = table.seat().expect("a seat");
     for _ in 0..26 {
-        seat.fork(1, false).expect("a child");
+        seat.fork(1).expect("a child");
     }
-    let saved = shared.entries(20, usize::MAX).expect("entries");
-    let again = Shared::options(32768, 1).keep(5).open().expect("a table");
+    let saved = table.entries(20, usize::MAX).expect("entries");
+    let again = options(1).keep(5).open().expect("a table");
     let stopped = again.replay(&saved).expect_err("other numbers");
     assert_eq!((stopped.place, stopped.error), (0, Error::Differs));
     for _ in 0..19 {
         again.replay(&next_fork(&again)).expect("the same");
     }
     assert_eq!(again.replay(&saved), Ok(()));
-    assert_eq!((counts(&again), again.list()), ((21, 26), shared.list()));
+    assert_eq!((counts(&again), again.list()), ((21, 26), table.list()));
 }
 
 /// A replica's text is that of the state at its ordinal; none that lacks a call that was cut away, or has another, follows on.
 #[test]
 fn a_table_that_follows() {
-    let shared = Shared::options(32768, 1).keep(80).open().expect("a table");
-    let mut seat = shared.seat().expect("a seat");
-    let mut replica = Table::open(32768).expect("a table");
+    let table = options(1).keep(80).open().expect("a table");
+    let mut seat = table.seat().expect("a seat");
+    let replica = Table::open(32768).expect("a table");
     let mut next = 0;
     for _ in 0..70 {
-        assert!(seat.fork(1, false).is_ok());
+        assert!(seat.fork(1).is_ok());
     }
-    assert_eq!((shared.follow(&mut replica, &mut next), next), (Ok(()), 70));
-    let before = shared.dump().expect("a text");
+    assert_eq!((table.follow(&replica, &mut next), next), (Ok(()), 70));
+    let before = table.dump().expect("a text");
     assert_eq!(replica.dump(), Ok(before.clone()));
-    assert!(seat.fork(1, true).is_ok());
+    assert!(seat.fork_new(1).is_ok());
     assert_eq!(replica.dump(), Ok(before));
-    assert_eq!((shared.follow(&mut replica, &mut next), next), (Ok(()), 71));
-    assert_eq!(replica.dump(), shared.dump());
-    assert!(replica.fork(1, false).is_ok());
+    assert_eq!((table.follow(&replica, &mut next), next), (Ok(()), 71));
+    assert_eq!(replica.dump(), table.dump());
+    assert!(replica.fork(1).is_ok());
     for _ in 0..20 {
-        assert!(seat.fork(1, false).is_ok());
+        assert!(seat.fork(1).is_ok());
     }
     let differs = Err(Error::Differs);
-    assert_eq!(
-        (shared.follow(&mut replica, &mut next), next),
-        (differs, 72)
-    );
+    assert_eq!((table.follow(&replica, &mut next), next), (differs, 72));
     for mut lacking in [0, 92] {
-        assert_eq!(
-            shared.follow(&mut replica, &mut lacking),
-            Err(Error::NotKept)
-        );
+        assert_eq!(table.follow(&replica, &mut lacking), Err(Error::NotKept));
     }
 }
 
 /// The entry of the next fork of process 1, where all before were such forks.
-fn next_fork(shared: &Shared) -> [Entry; 1] {
-    let number = counts(shared).1 as u32 + 2;
+fn next_fork(table: &Table) -> [Entry; 1] {
+    let number = counts(table).1 as u32 + 2;
     let reply = Reply::Forked(Child {
         number,
         root: number,
@@ -229,7 +227,7 @@ fn what_a_replay_that_stops_says() {
 
 #[test]
 fn a_reply_with_too_many_numbers_differs() {
-    let shared = open(1);
+    let table = open(1);
     let call = Call::Nspid {
         caller: 1,
         number: 1,
@@ -242,20 +240,20 @@ fn a_reply_with_too_many_numbers_differs() {
             reply,
         }]
     };
-    assert_eq!(shared.replay(&saved(Reply::Levels(vec![1]))), Ok(()));
+    assert_eq!(table.replay(&saved(Reply::Levels(vec![1]))), Ok(()));
     for numbers in [vec![], vec![1; 2], vec![1; 40]] {
         let stopped = ReplayError {
             place: 0,
             error: Error::Differs,
         };
-        assert_eq!(shared.replay(&saved(Reply::Levels(numbers))), Err(stopped));
+        assert_eq!(table.replay(&saved(Reply::Levels(numbers))), Err(stopped));
     }
 }
 
 #[test]
 fn what_a_seat_shows_of_itself() {
-    let shared = open(1);
-    let mut seat = shared.seat().expect("a seat");
+    let table = open(1);
+    let mut seat = table.seat().expect("a seat");
     assert_eq!(seat.ordinal(), None);
     assert_eq!(seat.getpid(1), Ok(1));
     assert_eq!(
@@ -267,90 +265,86 @@ fn what_a_seat_shows_of_itself() {
 /// No call of another seat comes between those that are made under one lock.
 #[test]
 fn several_calls_in_one_go() {
-    let shared = open(4);
+    let table = open(4);
     thread::scope(|scope| {
         for _ in 0..4 {
             scope.spawn(|| {
-                let mut seat = shared.seat().expect("a seat");
+                let mut seat = table.seat().expect("a seat");
                 for _ in 0..500 {
                     fork_and_reap(&mut seat);
                 }
             });
         }
     });
-    assert_eq!(counts(&shared), (0, 4 * 500 * 3));
-    assert_eq!(shared.ask(Call::Count { id: 0 }), Ok(Reply::Counted(1)));
+    assert_eq!(counts(&table), (0, 4 * 500 * 3));
+    assert_eq!(table.ask(Call::Count { id: 0 }), Ok(Reply::Counted(1)));
 }
 
-fn fork_and_reap(seat: &mut Seat<'_>) {
-    let mut turn = seat.lock();
-    let before = turn.counts().expect("counts").recorded;
-    let child = turn.fork(1, false).expect("a child");
+fn fork_and_reap(seat: &mut Seat<&Table>) {
+    let held = seat.table().lock().expect("the lock");
+    let before = held.counts().expect("counts").recorded;
+    let child = seat.fork(1).expect("a child");
     assert_eq!(
-        turn.line(format!("exit {} 3", child.root)),
+        seat.line(format!("exit {} 3", child.root)),
         Ok("ok".to_owned())
     );
     let (child, ended) = (child.number, Ended::Exited(3));
-    assert_eq!(turn.wait(1, Which::Any), Ok(Some(Reaped { child, ended })));
-    assert_eq!(turn.ordinal(), Some(before + 2));
+    assert_eq!(held.wait(1, Which::Any), Ok(Some(Reaped { child, ended })));
+    assert_eq!(seat.ordinal(), Some(before + 1));
 }
 
 #[test]
 fn a_list_and_the_counts_that_it_belongs_to() {
-    let shared = open(1);
-    let mut seat = shared.seat().expect("a seat");
+    let table = open(1);
+    let mut seat = table.seat().expect("a seat");
     for _ in 0..200 {
-        seat.fork(1, false).expect("a child");
+        seat.fork(1).expect("a child");
     }
-    let mut record = shared.lock();
-    let (listing, recorded) = (record.listing().expect("a list"), record.counts());
+    let held = table.lock().expect("the lock");
+    let (listing, recorded) = (held.listing().expect("a list"), held.counts());
     assert_eq!(
         listing.tasks.len() as u64,
         recorded.expect("counts").recorded + 1
     );
-    assert_eq!((record.worker(0), record.checkpoint()), (Ok(200), Ok(())));
-    drop(record);
-    assert_eq!(
-        (counts(&shared), shared.listing()),
-        ((200, 200), Ok(listing))
-    );
+    assert_eq!((held.worker(0), held.checkpoint()), (Ok(200), Ok(())));
+    drop(held);
+    assert_eq!((counts(&table), table.listing()), ((200, 200), Ok(listing)));
 }
 
 #[test]
 fn a_thread_that_panics_gives_the_lock_back() {
-    let shared = Arc::new(open(2));
-    let other = Arc::clone(&shared);
+    let table = Arc::new(open(2));
+    let other = Arc::clone(&table);
     let panicked = thread::spawn(move || {
-        let mut seat = other.seat().expect("a seat");
-        let mut turn = seat.lock();
-        turn.fork(1, false).expect("a child");
+        let held = other.lock().expect("the lock");
+        held.fork(1).expect("a child");
         panic!("on purpose, with the lock");
     });
     assert!(panicked.join().is_err());
-    assert_eq!(counts(&shared), (0, 1));
-    assert_eq!(shared.seat().expect("a seat").getpid(2), Ok(2));
+    assert_eq!(counts(&table), (0, 1));
+    assert_eq!(table.seat().expect("a seat").getpid(2), Ok(2));
 }
 
 /// Readers beside a writer, whose child ends and is waited for: each sees one task or two, and histories that only grow. The writer comes to its end.
 #[test]
 fn readers_beside_a_writer() {
-    let (shared, is_over) = (open(1), AtomicBool::new(false));
+    let (table, is_over) = (open(1), AtomicBool::new(false));
     let read = || {
         let mut before = 0;
         while !is_over.load(Ordering::SeqCst) {
-            let counted = shared.ask(Call::Count { id: 0 }).expect("a reply");
+            let counted = table.ask(Call::Count { id: 0 }).expect("a reply");
             assert!(matches!(counted, Reply::Counted(1 | 2)), "{counted:?}");
-            assert_eq!(shared.stat(1, 0).expect("a task").numbers(), [1]);
-            let children = shared.children(1, 0, 0).expect("a list");
+            assert_eq!(table.stat(1, 0).expect("a task").numbers(), [1]);
+            let children = table.children(1, 0, 0).expect("a list");
             assert!(children.len() < 2, "{children:?}");
-            let live = shared.control_tasks(1, 0, 0).expect("a list");
+            let live = table.control_tasks(1, 0, 0).expect("a list");
             assert!(live.len() == 1 || live.len() == 2, "{live:?}");
-            let root = shared.space(0).expect("a read");
+            let root = table.space(0).expect("a read");
             assert_eq!(root.and_then(|it| it.init), Some(1));
-            let (_, recorded) = counts(&shared);
+            let (_, recorded) = counts(&table);
             assert!(recorded >= before);
             before = recorded;
-            let listed = shared.listing().expect("a list").tasks.len();
+            let listed = table.listing().expect("a list").tasks.len();
             assert!(listed == 1 || listed == 2, "{listed}");
             thread::sleep(Duration::from_millis(1));
         }
@@ -359,15 +353,15 @@ fn readers_beside_a_writer() {
         for _ in 0..WORKERS {
             scope.spawn(read);
         }
-        let mut seat = shared.seat().expect("a seat");
+        let mut seat = table.seat().expect("a seat");
         for _ in 0..200 {
-            let child = seat.fork(1, false).expect("a child");
+            let child = seat.fork(1).expect("a child");
             seat.exit(child.root, 7).expect("an exit");
             seat.wait(1, Which::Any).expect("a child that ended");
         }
         is_over.store(true, Ordering::SeqCst);
     });
-    assert_eq!(counts(&shared), (0, 600));
+    assert_eq!(counts(&table), (0, 600));
 }
 
 /// Calls of which some are refused.
@@ -389,14 +383,11 @@ fn mixed(count: usize) -> Vec<Call> {
     calls.into_iter().cycle().take(count).collect()
 }
 
-/// Turns, also longer than what goes to the library at a time, beside as many single calls.
+/// Many calls in one go, also more than go to the library at a time, beside as many single calls.
 #[test]
-fn turns_as_single_calls() {
-    let (shared, other) = (open(2), open(2));
-    let (mut seat, mut alone) = (
-        shared.seat().expect("a seat"),
-        other.seat().expect("a seat"),
-    );
+fn calls_in_one_go_as_single_calls() {
+    let (table, other) = (open(2), open(2));
+    let (mut seat, mut alone) = (table.seat().expect("a seat"), other.seat().expect("a seat"));
     let mut wanted = Vec::new();
     for length in [0, 1, 64, 65, 200] {
         let (calls, mut replies) = (mixed(length), vec![Reply::Done]);
@@ -407,47 +398,47 @@ fn turns_as_single_calls() {
         assert_eq!(seat.ordinal(), alone.ordinal());
     }
     assert!(matches!(wanted[5], Reply::Refused { .. }));
-    assert_eq!(shared.entries(0, 999), other.entries(0, 999));
-    assert_eq!(shared.dump(), other.dump());
+    assert_eq!(table.entries(0, 999), other.entries(0, 999));
+    assert_eq!(table.dump(), other.dump());
 }
 
 /// Where the stamps are used up, the calls before are made and told.
 #[test]
-fn a_turn_behind_the_last_stamp() {
-    let shared = Shared::options(32768, 1).first_stamp(u64::MAX - 70);
-    let shared = shared.open().expect("a table");
-    let (mut seat, mut replies) = (shared.seat().expect("a seat"), Vec::new());
+fn calls_after_the_last_stamp() {
+    let table = options(1).first_stamp(u64::MAX - 70);
+    let table = table.open().expect("a table");
+    let (mut seat, mut replies) = (table.seat().expect("a seat"), Vec::new());
     assert_eq!(seat.calls(&mixed(99), &mut replies), Err(Error::Spent));
     assert_eq!((replies.len(), seat.ordinal()), (70, Some(69)));
     assert_eq!(seat.calls(&mixed(3), &mut replies), Err(Error::Spent));
-    assert_eq!(seat.lock().calls(&[], &mut replies), Ok(()));
-    assert_eq!((replies.len(), counts(&shared)), (70, (0, 70)));
+    assert_eq!(seat.calls(&[], &mut replies), Ok(()));
+    assert_eq!((replies.len(), counts(&table)), (70, (0, 70)));
 }
 
-/// No call of another worker comes between those of a turn, and the history keeps its bound.
+/// No call of another worker comes between those in one go, and the history keeps its bound.
 #[test]
-fn turns_of_threads() {
-    let shared = Shared::options(32768, 4).keep(1000).open();
-    let shared = shared.expect("a table");
+fn calls_in_one_go_of_threads() {
+    let table = options(4).keep(1000).open();
+    let table = table.expect("a table");
     thread::scope(|scope| {
         for _ in 0..4 {
             scope.spawn(|| {
-                let (mut seat, calls) = (shared.seat().expect("a seat"), mixed(10));
-                for turn in 0..300 {
+                let (mut seat, calls) = (table.seat().expect("a seat"), mixed(10));
+                for time in 0..300 {
                     let mut replies = Vec::new();
                     assert_eq!(seat.calls(&calls, &mut replies), Ok(()));
                     assert_eq!(
                         (replies.len(), seat.ordinal().expect("one") % 10),
                         (10, 9),
-                        "{turn}"
+                        "{time}"
                     );
                 }
             });
         }
     });
-    assert_eq!(counts(&shared), (11_000, 12_000));
-    let entries = shared.entries(11_000, 1000).expect("entries");
-    for turn in entries.chunks(10) {
-        assert!(turn.iter().all(|it| it.worker == turn[0].worker));
+    assert_eq!(counts(&table), (11_000, 12_000));
+    let entries = table.entries(11_000, 1000).expect("entries");
+    for calls in entries.chunks(10) {
+        assert!(calls.iter().all(|it| it.worker == calls[0].worker));
     }
 }

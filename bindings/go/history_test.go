@@ -14,19 +14,14 @@ import (
 	"time"
 )
 
-func openShared(t *testing.T, settings Settings) *Shared {
-	t.Helper()
-	shared, err := OpenShared(settings)
-	if err != nil {
-		t.Fatal(err)
-	}
-	t.Cleanup(shared.Close)
-	return shared
+// withHistory is for a table that goroutines use, with all of its history.
+func withHistory(workers uint32) Settings {
+	return Settings{Workers: workers, Keep: KeepAll, Threads: true}
 }
 
-func seatOf(t *testing.T, shared *Shared) *Seat {
+func seatOf(t *testing.T, table *Table) *Seat {
 	t.Helper()
-	seat, err := shared.Seat()
+	seat, err := table.Seat()
 	if err != nil {
 		t.Fatal(err)
 	}
@@ -34,9 +29,9 @@ func seatOf(t *testing.T, shared *Shared) *Seat {
 }
 
 // wantCounts compares how far the history goes.
-func wantCounts(t *testing.T, shared *Shared, firstKept, recorded uint64) {
+func wantCounts(t *testing.T, table *Table, firstKept, recorded uint64) {
 	t.Helper()
-	want(t, "counts", of(shared.Counts()), Counts{firstKept, recorded}, nil)
+	want(t, "counts", of(table.Counts()), Counts{firstKept, recorded}, nil)
 }
 
 func wantOrdinal(t *testing.T, seat *Seat, wanted uint64) {
@@ -91,14 +86,14 @@ func (it *work) serve() {
 }
 
 // sixteenAtOnce are the receipts of sixteen goroutines, by their workers.
-func sixteenAtOnce(t *testing.T, shared *Shared) [][]Entry {
+func sixteenAtOnce(t *testing.T, table *Table) [][]Entry {
 	works := make([]work, workers)
 	var busy sync.WaitGroup
 	for i := range works {
 		busy.Add(1)
 		go func(it *work) {
 			defer busy.Done()
-			seat, err := shared.Seat()
+			seat, err := table.Seat()
 			if err != nil {
 				t.Error(err)
 				return
@@ -119,13 +114,13 @@ func sixteenAtOnce(t *testing.T, shared *Shared) [][]Entry {
 	return receipts
 }
 
-func theCountsAddUp(t *testing.T, shared *Shared) {
+func theCountsAddUp(t *testing.T, table *Table) {
 	t.Helper()
-	wantCounts(t, shared, 0, workers*each)
+	wantCounts(t, table, 0, workers*each)
 	for i := uint32(0); i < workers; i++ {
-		want(t, "worker", of(shared.Worker(i)), uint64(each), nil)
+		want(t, "worker", of(table.Worker(i)), uint64(each), nil)
 	}
-	want(t, "no seat", of(shared.Seat()), (*Seat)(nil), ErrNoSeat)
+	want(t, "no seat", of(table.Seat()), (*Seat)(nil), ErrNoSeat)
 }
 
 // theReceiptsAreTheEntries compares each worker's receipts with its entries, in order.
@@ -146,11 +141,11 @@ func theReceiptsAreTheEntries(t *testing.T, history []Entry, receipts [][]Entry)
 // theHistoryReplays makes it again on a second record, and by the calls of one goroutine on a table without a history.
 func theHistoryReplays(t *testing.T, history []Entry, list string) {
 	t.Helper()
-	again := openShared(t, Settings{PidMax: 32768, Workers: workers})
+	again := open(t, withHistory(workers))
 	want(t, "replay", only(again.Replay(history)), nil, nil)
 	wantCounts(t, again, 0, workers*each)
 	want(t, "list", of(again.List()), list, nil)
-	table := open(t, 32768)
+	table := open(t, Settings{})
 	for _, entry := range history {
 		if reply, err := table.Call(entry.Call); err != nil || reply != entry.Reply {
 			t.Fatal(entry, reply, err)
@@ -159,24 +154,24 @@ func theHistoryReplays(t *testing.T, history []Entry, list string) {
 	want(t, "list", of(table.List()), list, nil)
 }
 
-func TestSixteenGoroutinesShareATable(t *testing.T) {
-	shared := openShared(t, Settings{PidMax: 32768, Workers: workers})
-	receipts := sixteenAtOnce(t, shared)
-	theCountsAddUp(t, shared)
-	history, err := shared.Entries(0, math.MaxInt)
+func TestSixteenGoroutinesUseATable(t *testing.T) {
+	table := open(t, withHistory(workers))
+	receipts := sixteenAtOnce(t, table)
+	theCountsAddUp(t, table)
+	history, err := table.Entries(0, math.MaxInt)
 	if err != nil {
 		t.Fatal(err)
 	}
 	theReceiptsAreTheEntries(t, history, receipts)
-	list, err := shared.List()
+	list, err := table.List()
 	if err != nil || !strings.Contains(list, "count 17\n") {
 		t.Fatal(list, err)
 	}
 	theHistoryReplays(t, history, list)
-	want(t, "too few", only(shared.CheckpointAt(workers*each-1)), nil, ErrAgain)
-	want(t, "all", only(shared.CheckpointAt(workers*each)), nil, nil)
-	wantCounts(t, shared, workers*each, workers*each)
-	want(t, "worker", of(shared.Worker(3)), uint64(each), nil)
+	want(t, "too few", only(table.CheckpointAt(workers*each-1)), nil, ErrAgain)
+	want(t, "all", only(table.CheckpointAt(workers*each)), nil, nil)
+	wantCounts(t, table, workers*each, workers*each)
+	want(t, "worker", of(table.Worker(3)), uint64(each), nil)
 }
 
 // forked makes so many children of process 1: numbers from 2 on, where there are no others.
@@ -190,7 +185,7 @@ func forked(t *testing.T, seat *Seat, times int) {
 }
 
 func TestWhatAReplyRefuses(t *testing.T) {
-	reply, err := open(t, 32768).Call(Call{Operation: OpGetpid, Caller: 9})
+	reply, err := open(t, Settings{}).Call(Call{Operation: OpGetpid, Caller: 9})
 	want(t, "refused", told{reply.Err(), err}, refused(syscall.ESRCH, "no-caller"), nil)
 	limited := Reply{Kind: ReplyRefused, Errno: syscall.EAGAIN, Refusal: 5, First: 7}
 	want(t, "limited", only(limited.Err()), nil, refused(syscall.EAGAIN, "pids-limit 7"))
@@ -199,8 +194,8 @@ func TestWhatAReplyRefuses(t *testing.T) {
 
 // With Keep the history is never longer, nor after a replay.
 func TestCutsOfItsOwn(t *testing.T) {
-	shared := openShared(t, Settings{PidMax: 32768, Workers: 1, Keep: 10})
-	seat := seatOf(t, shared)
+	table := open(t, Settings{Keep: 10, Threads: true})
+	seat := seatOf(t, table)
 	for ordinal := uint64(0); ordinal < 25; ordinal++ {
 		if _, err := seat.Line("fork 1"); err != nil {
 			t.Fatal(err)
@@ -210,95 +205,95 @@ func TestCutsOfItsOwn(t *testing.T) {
 		if ordinal >= 10 {
 			firstKept = ordinal - 9
 		}
-		wantCounts(t, shared, firstKept, ordinal+1)
+		wantCounts(t, table, firstKept, ordinal+1)
 	}
 	forked(t, seat, 1)
-	saved, err := shared.Entries(20, math.MaxInt)
-	again := openShared(t, Settings{PidMax: 32768, Workers: 1, Keep: 5})
+	saved, err := table.Entries(20, math.MaxInt)
+	again := open(t, Settings{Keep: 5, Threads: true})
 	forked(t, seatOf(t, again), 20)
 	want(t, "replay", told{again.Replay(saved), err}, nil, nil)
 	wantCounts(t, again, 21, 26)
-	list, err := shared.List()
+	list, err := table.List()
 	want(t, "list", of(again.List()), list, err)
 }
 
 // A replica's text is that of the state at its ordinal; none that lacks a call that was cut away, or has another, follows on.
 func TestATableThatFollows(t *testing.T) {
-	shared := openShared(t, Settings{PidMax: 32768, Workers: 1, Keep: 80})
-	seat, replica := seatOf(t, shared), open(t, 32768)
+	table := open(t, Settings{Keep: 80, Threads: true})
+	seat, replica := seatOf(t, table), open(t, Settings{})
 	forked(t, seat, 70)
-	next, err := shared.Follow(replica, 0)
+	next, err := table.Follow(replica, 0)
 	want(t, "follow", of(next, err), uint64(70), nil)
-	text, err := shared.Dump()
+	text, err := table.Dump()
 	want(t, "dump", of(replica.Dump()), text, err)
 	if _, err := seat.Fork(1, true); err != nil {
 		t.Fatal(err)
 	}
 	want(t, "dump of before", of(replica.Dump()), text, nil)
-	want(t, "follow", of(shared.Follow(replica, next)), uint64(71), nil)
-	text, err = shared.Dump()
+	want(t, "follow", of(table.Follow(replica, next)), uint64(71), nil)
+	text, err = table.Dump()
 	want(t, "dump", of(replica.Dump()), text, err)
 	if _, err := replica.Fork(1, false); err != nil {
 		t.Fatal(err)
 	}
 	forked(t, seat, 20)
-	want(t, "another call", of(shared.Follow(replica, 71)), uint64(72), ErrDiffers)
-	want(t, "cut away", of(shared.Follow(open(t, 32768), 0)), uint64(0), ErrNotKept)
-	want(t, "not reached", of(shared.Follow(replica, 92)), uint64(92), ErrNotKept)
+	want(t, "another call", of(table.Follow(replica, 71)), uint64(72), ErrDiffers)
+	want(t, "cut away", of(table.Follow(open(t, Settings{}), 0)), uint64(0), ErrNotKept)
+	want(t, "not reached", of(table.Follow(replica, 92)), uint64(92), ErrNotKept)
 }
 
 func TestWhatAReplayThatStopsSays(t *testing.T) {
-	shared := openShared(t, Settings{PidMax: 32768, Workers: 2})
-	stopped := shared.Replay([]Entry{{Call: Call{Operation: 99}}})
+	table := open(t, withHistory(2))
+	stopped := table.Replay([]Entry{{Call: Call{Operation: 99}}})
 	want(t, "no call", only(stopped), nil, ReplayError{0, RangeError{"Call.Operation", "99", "0 to 18"}})
 	if differs := (ReplayError{10, ErrDiffers}); !errors.Is(differs, ErrDiffers) || differs.Error() != "pidtab: a reply is not the saved one: saved entry 10" {
 		t.Error(differs)
 	}
-	want(t, "nothing", only(shared.Replay(nil)), nil, nil)
+	want(t, "nothing", only(table.Replay(nil)), nil, nil)
 }
 
 // allClosed says that each method answers so.
-func allClosed(t *testing.T, shared *Shared, seat *Seat, err error) {
+func allClosed(t *testing.T, table *Table, seat *Seat, err error) {
 	t.Helper()
-	want(t, "ask", of(shared.Ask(Call{Operation: OpCount})), Reply{}, err)
-	want(t, "stat", of(shared.Stat(1, 0)), Stat{}, err)
-	want(t, "counts", of(shared.Counts()), Counts{}, err)
-	want(t, "worker", of(shared.Worker(0)), uint64(0), err)
-	want(t, "entry", of(shared.Entry(0)), Entry{}, err)
-	want(t, "entries", of(shared.Entries(0, 9)), []Entry(nil), err)
-	want(t, "checkpoint", only(shared.Checkpoint()), nil, err)
-	want(t, "checkpoint at", only(shared.CheckpointAt(0)), nil, err)
-	want(t, "list", of(shared.List()), "", err)
-	want(t, "listing", of(shared.Listing()), Listing{}, err)
-	want(t, "opening", of(shared.Opening()), "", err)
-	want(t, "replay", only(shared.Replay(nil)), nil, err)
-	want(t, "replay", only(shared.Replay(make([]Entry, 1))), nil, err)
+	want(t, "ask", of(table.Ask(Call{Operation: OpCount})), Reply{}, err)
+	want(t, "stat", of(table.Stat(1, 0)), Stat{}, err)
+	want(t, "counts", of(table.Counts()), Counts{}, err)
+	want(t, "worker", of(table.Worker(0)), uint64(0), err)
+	want(t, "entry", of(table.Entry(0)), Entry{}, err)
+	want(t, "entries", of(table.Entries(0, 9)), []Entry(nil), err)
+	want(t, "checkpoint", only(table.Checkpoint()), nil, err)
+	want(t, "checkpoint at", only(table.CheckpointAt(0)), nil, err)
+	want(t, "list", of(table.List()), "", err)
+	want(t, "listing", of(table.Listing()), Listing{}, err)
+	want(t, "opening", of(table.Opening()), "", err)
+	want(t, "replay", only(table.Replay(nil)), nil, err)
+	want(t, "replay", only(table.Replay(make([]Entry, 1))), nil, err)
 	want(t, "getpid", of(seat.Getpid(1)), uint32(0), err)
 	want(t, "call", of(seat.Call(Call{Operation: OpGetpid, Caller: 1})), Reply{}, err)
 	want(t, "line", of(seat.Line("getpid 1")), "", err)
 	want(t, "empty line", of(seat.Line("")), "", err)
 }
 
-func TestAClosedSharedTable(t *testing.T) {
-	shared := openShared(t, Settings{PidMax: 32768, Workers: 2, Keep: 1})
-	seat := seatOf(t, shared)
+func TestAClosedTableWithItsHistory(t *testing.T) {
+	kept := open(t, Settings{Workers: 2, Keep: 1, Threads: true})
+	seat := seatOf(t, kept)
 	want(t, "getpid", of(seat.Getpid(1)), uint32(1), nil)
-	shared.Close()
-	shared.Close()
-	allClosed(t, shared, seat, ErrClosed)
-	want(t, "seat", of(shared.Seat()), (*Seat)(nil), ErrClosed)
+	kept.Close()
+	kept.Close()
+	allClosed(t, kept, seat, ErrClosed)
+	want(t, "seat", of(kept.Seat()), (*Seat)(nil), ErrClosed)
 	wantOrdinal(t, seat, 0)
-	allClosed(t, new(Shared), new(Seat), ErrClosed)
-	want(t, "no table", of(new(Shared).Seat()), (*Seat)(nil), ErrClosed)
+	allClosed(t, new(Table), new(Seat), ErrClosed)
+	want(t, "no table", of(new(Table).Seat()), (*Seat)(nil), ErrClosed)
 	if ordinal, made := new(Seat).Ordinal(); made || ordinal != 0 || new(Seat).Worker() != 0 {
 		t.Error(ordinal, made)
 	}
-	new(Shared).Close()
+	new(Table).Close()
 }
 
 // A goroutine closes the table while others are in it: each has its answer or ErrClosed.
 func TestACloseWhileOthersCall(t *testing.T) {
-	shared := openShared(t, Settings{PidMax: 32768, Workers: 4})
+	table := open(t, withHistory(4))
 	var busy sync.WaitGroup
 	for i := 0; i < 4; i++ {
 		busy.Add(1)
@@ -311,32 +306,32 @@ func TestACloseWhileOthersCall(t *testing.T) {
 			if err != ErrClosed {
 				t.Error(err)
 			}
-		}(seatOf(t, shared))
+		}(seatOf(t, table))
 	}
 	time.Sleep(10 * time.Millisecond)
-	shared.Close()
+	table.Close()
 	busy.Wait()
 }
 
 // As in a forked child, where the thread whose call was under way is not.
-func TestASharedCallThatDoesNotEnd(t *testing.T) {
-	shared := openShared(t, Settings{PidMax: 32768, Workers: 1, Keep: 1})
-	seat := seatOf(t, shared)
-	shared.own.raw.in_use = 255
-	want(t, "counts", of(shared.Counts()), Counts{}, ErrBusy)
+func TestACallOfASeatThatDoesNotEnd(t *testing.T) {
+	table := open(t, Settings{Keep: 1, Threads: true})
+	seat := seatOf(t, table)
+	table.held().raw.in_use = 255
+	want(t, "counts", of(table.Counts()), Counts{}, ErrBusy)
 	want(t, "getpid", of(seat.Getpid(1)), uint32(0), ErrBusy)
 	want(t, "line", of(seat.Line("getpid 1")), "", ErrBusy)
-	want(t, "list", of(shared.List()), "", ErrBusy)
-	want(t, "stat", of(shared.Stat(1, 0)), Stat{}, ErrBusy)
-	shared.Close()
-	shared.own.raw.in_use = 0
+	want(t, "list", of(table.List()), "", ErrBusy)
+	want(t, "stat", of(table.Stat(1, 0)), Stat{}, ErrBusy)
+	table.Close()
+	table.held().raw.in_use = 0
 	want(t, "getpid", of(seat.Getpid(1)), uint32(1), nil)
 }
 
 // Several goroutines may use one seat: no call is lost.
 func TestGoroutinesAtOneSeat(t *testing.T) {
-	shared := openShared(t, Settings{PidMax: 32768, Workers: 1})
-	seat := seatOf(t, shared)
+	table := open(t, withHistory(1))
+	seat := seatOf(t, table)
 	var busy sync.WaitGroup
 	for i := 0; i < 8; i++ {
 		busy.Add(1)
@@ -346,7 +341,7 @@ func TestGoroutinesAtOneSeat(t *testing.T) {
 		}()
 	}
 	busy.Wait()
-	wantCounts(t, shared, 0, 1600)
+	wantCounts(t, table, 0, 1600)
 	wantOrdinal(t, seat, 1599)
 }
 
@@ -362,10 +357,10 @@ func mixed(count int) []Call {
 	return calls
 }
 
-// Turns beside as many single calls.
-func TestTurnsAsSingleCalls(t *testing.T) {
-	shared, other := openShared(t, Settings{PidMax: 32768, Workers: 2}), openShared(t, Settings{PidMax: 32768, Workers: 2})
-	seat, alone := seatOf(t, shared), seatOf(t, other)
+// Many calls in one go beside as many single ones.
+func TestManyCallsAsSingleOnes(t *testing.T) {
+	kept, other := open(t, withHistory(2)), open(t, withHistory(2))
+	seat, alone := seatOf(t, kept), seatOf(t, other)
 	for _, count := range []int{0, 1, 64, 200} {
 		wanted := []Reply{}
 		for _, call := range mixed(count) {
@@ -375,33 +370,33 @@ func TestTurnsAsSingleCalls(t *testing.T) {
 			}
 			wanted = append(wanted, reply)
 		}
-		want(t, "a turn", of(seat.Calls(mixed(count))), wanted, nil)
+		want(t, "many calls", of(seat.Calls(mixed(count))), wanted, nil)
 	}
 	wantOrdinal(t, seat, 264)
 	text, err := other.Dump()
-	want(t, "the text", of(shared.Dump()), text, err)
-	want(t, "a turn with what is no call", of(seat.Calls(append(mixed(5), Call{Operation: 99}))), []Reply{}, RangeError{"calls[5].Operation", "99", "0 to 18"})
-	wantCounts(t, shared, 0, 265)
-	shared.Close()
+	want(t, "the text", of(kept.Dump()), text, err)
+	want(t, "many with what is no call", of(seat.Calls(append(mixed(5), Call{Operation: 99}))), []Reply{}, RangeError{"calls[5].Operation", "99", "0 to 18"})
+	wantCounts(t, kept, 0, 265)
+	kept.Close()
 	want(t, "a closed table", of(seat.Calls(nil)), []Reply{}, ErrClosed)
 	want(t, "a seat that nobody gave", of(new(Seat).Calls(mixed(2))), []Reply{}, ErrClosed)
 }
 
 // Where the stamps are used up, the calls before are made and told.
-func TestATurnBehindTheLastStamp(t *testing.T) {
-	shared := openShared(t, Settings{PidMax: 32768, Workers: 1, FirstStamp: math.MaxUint64 - 3})
-	seat := seatOf(t, shared)
+func TestManyCallsBehindTheLastStamp(t *testing.T) {
+	table := open(t, Settings{FirstStamp: math.MaxUint64 - 3, Keep: KeepAll, Threads: true})
+	seat := seatOf(t, table)
 	replies, err := seat.Calls(mixed(9))
 	want(t, "how many", of(len(replies), err), 3, ErrSpent)
 	wantOrdinal(t, seat, 2)
 }
 
-// No call of another worker comes between those of a turn, and the history keeps its bound.
-func TestTurnsOfGoroutines(t *testing.T) {
-	shared := openShared(t, Settings{PidMax: 32768, Workers: 4, Keep: 1000})
+// No call of another worker comes between those of many in one go, and the history keeps its bound.
+func TestManyCallsOfGoroutines(t *testing.T) {
+	table := open(t, Settings{Workers: 4, Keep: 1000, Threads: true})
 	var busy sync.WaitGroup
 	for i := 0; i < 4; i++ {
-		seat := seatOf(t, shared)
+		seat := seatOf(t, table)
 		busy.Add(1)
 		go func() {
 			defer busy.Done()
@@ -413,8 +408,8 @@ func TestTurnsOfGoroutines(t *testing.T) {
 		}()
 	}
 	busy.Wait()
-	wantCounts(t, shared, 11000, 12000)
-	entries, err := shared.Entries(11000, 1000)
+	wantCounts(t, table, 11000, 12000)
+	entries, err := table.Entries(11000, 1000)
 	for i, entry := range entries {
 		if entry.Worker != entries[i-i%10].Worker {
 			t.Error(i, entry.Worker)
@@ -440,11 +435,11 @@ func resident(t *testing.T) int {
 // dropped makes a table with a history of some 3.8 MB, and drops it and its seat.
 func dropped(t *testing.T) {
 	t.Helper()
-	shared, err := OpenShared(Settings{PidMax: 32768, Workers: 1})
+	table, err := Open(withHistory(1))
 	if err != nil {
 		t.Fatal(err)
 	}
-	seat := seatOf(t, shared)
+	seat := seatOf(t, table)
 	for i := 0; i < 60000; i++ {
 		seat.Getpid(1)
 	}
@@ -452,12 +447,12 @@ func dropped(t *testing.T) {
 
 // The collector closes tables that nobody has any more, with their seats, and none that a seat is left of.
 func TestWhatTheCollectorCloses(t *testing.T) {
-	shared, err := OpenShared(Settings{PidMax: 32768, Workers: 1})
+	table, err := Open(withHistory(1))
 	if err != nil {
 		t.Fatal(err)
 	}
-	seat := seatOf(t, shared)
-	shared = nil
+	seat := seatOf(t, table)
+	table = nil
 	before := resident(t)
 	for i := 0; i < 50; i++ {
 		dropped(t)
@@ -472,28 +467,28 @@ func TestWhatTheCollectorCloses(t *testing.T) {
 
 // While a query is under way another one is answered, and a call waits. Then a query waits after the call, and sees what it has done.
 func TestQueriesAtOnce(t *testing.T) {
-	shared := openShared(t, Settings{PidMax: 32768, Workers: 1})
-	seat, all, held := seatOf(t, shared), Call{Operation: OpCount}, shared.held()
+	table := open(t, withHistory(1))
+	seat, all, held := seatOf(t, table), Call{Operation: OpCount}, table.held()
 	ask := func(to chan<- Reply) {
-		reply, err := shared.Ask(all)
+		reply, err := table.Ask(all)
 		if err != nil {
 			t.Error(err)
 		}
 		to <- reply
 	}
 	first, second, made := make(chan Reply), make(chan Reply), make(chan error)
-	held.lock.RLock()
+	held.RLock()
 	go ask(first)
 	want(t, "beside a query", of((<-first).First, nil), uint64(1), nil)
-	if _, err := shared.List(); err != nil {
+	if _, err := table.List(); err != nil {
 		t.Error(err)
 	}
 	go func() {
 		_, err := seat.Fork(1, false)
 		made <- err
 	}()
-	for held.lock.lock.TryRLock() {
-		held.lock.RUnlock()
+	for held.lock.TryRLock() {
+		held.RUnlock()
 		runtime.Gosched()
 	}
 	go ask(second)
@@ -504,7 +499,7 @@ func TestQueriesAtOnce(t *testing.T) {
 		t.Error("a call was made beside a query")
 	case <-time.After(50 * time.Millisecond):
 	}
-	held.lock.RUnlock()
+	held.RUnlock()
 	if err := <-made; err != nil {
 		t.Error(err)
 	}
