@@ -131,7 +131,7 @@ COMPLETIONS = bash-completion/completions/pidtabctl zsh/site-functions/_pidtabct
 # The functions that a manual page names at its head, each of which has a manual page by its name.
 NAMED = sed -n 's/^\.Nm \(pidtab_[a-z_]*\).*/\1/p'
 FUNCTIONS = $(shell $(NAMED) man/*.3)
-HEADERS = pidtab.h pidtab_saved.h pidtab_replica.h
+HEADERS = pidtab.h pidtab_saved.h pidtab_replica.h host_calls.h
 MANUALS = $(foreach page,$(wildcard man/*.$(1)),'$(DESTDIR)$(MANDIR)/man$(1)/$(notdir $(page))')
 BINARIES = $(DESTDIR)$(PREFIX)/bin
 SHARED_FILES = $(DESTDIR)$(PREFIX)/share/pidtab
@@ -186,12 +186,12 @@ uninstall: ## removes what these have installed, with the same variables
 TARGETS = x86_64-unknown-linux-gnu aarch64-unknown-linux-gnu
 machines: js ## * proves and builds for aarch64, riscv64, and any Linux by musl, into out/machines (15 minutes); what has no compiler here is skipped
 	@mkdir -p out/machines
-	@{ for target in $(TARGETS); do for crate in pidtab pidtab_c log_turns; do tools/module $$target $$crate || exit 1; done; done && \
+	@{ for target in $(TARGETS); do for crate in pidtab pidtab_c host_calls log_turns; do tools/module $$target $$crate || exit 1; done; done && \
 		for it in $$(packaging/machine names); do \
 			tools/report out/machines/$$it.txt $(foreach file,pidtab libpidtab.a libpidtab.so.1,out/machines/$$it/$(file)) -- packaging/machine build $$it || exit 1; done && \
 		packaging/machine source && \
-		tools/report out/machines/source.txt out/machines/source/pidtab.[Sc] out/machines/source/log_turns.S -- \
-			grep '^logic=' $(foreach it,pidtab_c log_turns,$(TARGETS:%=out/module/%/$(it).verdict)); } > out/machines.log 2>&1 \
+		tools/report out/machines/source.txt out/machines/source/pidtab.[Sc] out/machines/source/host_calls.S out/machines/source/log_turns.S -- \
+			grep '^logic=' $(foreach it,pidtab_c host_calls log_turns,$(TARGETS:%=out/module/%/$(it).verdict)); } > out/machines.log 2>&1 \
 		|| { echo 'make machines failed: see out/machines.log' >&2; exit 1; }
 	@packaging/machine names > /dev/null
 
@@ -213,9 +213,11 @@ dist-test: ## installs each part of out/dist without a network, uses it, and mak
 
 .PHONY: lib try-lib
 
-# The library is made of the archive that the checker proves and builds; its parts are in bindings/c. What the tools say is in out/lib.log, out/turns.log and
-# out/link.log.
+# The library is made of two archives that the checker proves and builds; its parts are in bindings/c. What the tools say is in out/lib.log, out/calls.log,
+# out/turns.log and out/link.log.
 LIBRARY = crates/pidtab_c/out/libpidtab_c.a
+# The machine for the calls of a host, beside it. It needs nothing else.
+HOST_CALLS = $(subst pidtab_c,host_calls,$(LIBRARY))
 OBJCOPY ?= objcopy
 TESTED = -std=c11 -D_GNU_SOURCE -O1 -g -Wall -Wextra -Werror -pthread
 CHECKED = $(TESTED) -fsanitize=address,undefined -fno-sanitize-recover=all
@@ -226,6 +228,7 @@ lib: ## * proves and builds the library for C, with its header, in out/ (some 40
 	@mkdir -p out
 	@if grep -qs '^not proved' out/library.txt; then rm -f out/library.txt out/libpidtab.* out/liblog_turns.a; fi
 	@tools/prove pidtab_c out/lib.log rt lib || { echo 'make lib failed: see out/lib.log' >&2; exit 1; }
+	@tools/prove host_calls out/calls.log rt lib || { echo 'make lib failed: see out/calls.log' >&2; exit 1; }
 	@tools/prove log_turns out/turns.log rt lib || { echo 'make lib failed: see out/turns.log' >&2; exit 1; }
 	@$(MAKE) -s out/liblog_turns.a out/libpidtab.a out/libpidtab.so.1 > out/link.log 2>&1 || { echo 'make lib failed: see out/link.log' >&2; exit 1; }
 	$(put_beside)
@@ -244,7 +247,7 @@ try-lib: ## * compiles the library for C without proofs, in out/: do not rely on
 	$(need_rt)
 	@echo 'this library is not proved, `make lib` proves it: compiling takes some four minutes' >&2
 	@rm -rf out/library.txt out/libpidtab.* out/liblog_turns.a && mkdir -p $(UNPROVED_OUT)
-	@{ tools/unproved log_turns $(UNPROVED_OUT)/liblog_turns.a && tools/unproved pidtab_c $(UNPROVED_OUT)/libpidtab_c.a && \
+	@{ for it in log_turns host_calls pidtab_c; do tools/unproved $$it $(UNPROVED_OUT)/lib$$it.a || exit 1; done && \
 		$(MAKE) -s OUT=$(UNPROVED_OUT) LIBRARY=$(UNPROVED_OUT)/libpidtab_c.a $(UNPROVED_OUT)/libpidtab.a $(UNPROVED_OUT)/libpidtab.so.1; } > out/try-lib.log 2>&1 \
 		|| { echo 'make try-lib failed: see out/try-lib.log' >&2; exit 1; }
 	@cp $(UNPROVED_OUT)/liblog_turns.a $(UNPROVED_OUT)/libpidtab.a $(UNPROVED_OUT)/libpidtab.so.1 out
@@ -260,13 +263,17 @@ out/liblog_turns.a: crates/log_turns/out/liblog_turns.a
 $(OUT)/proved.a: $(LIBRARY) bindings/c/renamed.syms
 	$(OBJCOPY) --redefine-syms=bindings/c/renamed.syms $(LIBRARY) $@
 
-# One object, of whose symbols only pidtab_.. are seen.
+$(OUT)/host_calls.o: $(HOST_CALLS)
+	$(LD) -r -o $@ --whole-archive $< --no-whole-archive
+	$(OBJCOPY) -w --keep-global-symbol='host_calls_*' $@
+
+# One object, of whose symbols only pidtab_.. and host_calls_.. are seen.
 INTERNAL = proved.h guard.h threads.h
 AROUND = heap guard guard_replica settings follow threads saved_file
-$(OUT)/pidtab.o: $(OUT)/proved.a $(AROUND:%=bindings/c/%.c) $(INTERNAL:%=bindings/c/%) $(HEADERS:%=bindings/c/%)
+$(OUT)/pidtab.o: $(OUT)/proved.a $(OUT)/host_calls.o $(AROUND:%=bindings/c/%.c) $(INTERNAL:%=bindings/c/%) $(HEADERS:%=bindings/c/%)
 	for it in $(AROUND); do $(CC) -std=c11 -O2 -Wall -Wextra -Werror -fPIC -pthread -c -o $(OUT)/$$it.o bindings/c/$$it.c || exit 1; done
-	$(LD) -r -o $@ --whole-archive $(OUT)/proved.a --no-whole-archive $(AROUND:%=$(OUT)/%.o)
-	$(OBJCOPY) -w --keep-global-symbol='pidtab_*' $@
+	$(LD) -r -o $@ --whole-archive $(OUT)/proved.a --no-whole-archive $(OUT)/host_calls.o $(AROUND:%=$(OUT)/%.o)
+	$(OBJCOPY) -w --keep-global-symbol='pidtab_*' --keep-global-symbol='host_calls_*' $@
 
 $(OUT)/libpidtab.a: $(OUT)/pidtab.o
 	rm -f $@
@@ -343,6 +350,7 @@ bindings-c:
 		for it in test_numbers test_dump_seeds test_effects_seeds test_saved; do \
 			$(call c_test,$(CHECKED),$$it,$(call in_c,$(HEAP))) || exit 1; done && \
 		$(call c_test,$(TESTED),test_fields,$(call in_c,$(HEAP))) && \
+		$(CC) $(CHECKED) -o $(OUT)/test_host_calls bindings/c/test_host_calls.c $(HOST_CALLS) && $(RUN) $(OUT)/test_host_calls && \
 		$(call c_test,$(CHECKED),test_cases,$(call in_c,$(HEAP)),interface/cases/*.cases) && \
 		$(call held_heap,$(THREADED),waiting,-Dfree=test_free) && \
 		$(call c_test,$(THREADED),test_threads,$(call of_held,waiting)) && \

@@ -24,7 +24,7 @@ PROGRAM = ["bin/pidtab", "bin/pidtab-check", "bin/pidtab-compare", "bin/pidtab-k
            "share/man/man1/pidtab.1", "share/man/man1/pidtabctl.1", "share/man/man5/pidtab.5", "share/pidtab/LICENSE",
            "share/zsh/site-functions/_pidtabctl"]  # fmt: skip
 # The library has a manual page for each function, by its name, beside the pages on all of them.
-HEADERS = sorted((REPOSITORY / "bindings" / "c").glob("pidtab*.h"))
+HEADERS = [REPOSITORY / "bindings" / "c" / "host_calls.h", *sorted((REPOSITORY / "bindings" / "c").glob("pidtab*.h"))]
 FUNCTIONS = re.findall(r"^(?:static inline )?[a-z].*[ *](pidtab_[a-z_]+)\(", "".join(path.read_text(encoding="utf-8") for path in HEADERS), re.MULTILINE)
 WHOLE = [path.stem for path in (REPOSITORY / "man").glob("*.3")]
 PAGES = sorted(f"share/man/man3/{name}.3" for name in [*WHOLE, *FUNCTIONS] if name not in ("pidtab_value", "pidtab_do"))

@@ -266,7 +266,7 @@ class LibraryFolders(Checkouts):
             shutil.copytree(REPOSITORY / name, self.top / name)
         shutil.copy(REPOSITORY / "VERSION", self.top)
         (self.top / "out").mkdir()
-        for name in ("libpidtab.a", "libpidtab.so.1", "pidtab.h", "pidtab_saved.h", "pidtab_replica.h"):
+        for name in ("libpidtab.a", "libpidtab.so.1", "pidtab.h", "pidtab_saved.h", "pidtab_replica.h", "host_calls.h"):
             (self.top / "out" / name).touch()
 
     def install(self, *words: str) -> list[str]:

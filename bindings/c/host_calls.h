@@ -1,6 +1,7 @@
 /* What a host does with the calls that are submitted to it: the machine of crates/host_calls, which is proved there. docs/CLUSTER.md has the states of
  * a call. The machine has no sockets, clocks and threads, and takes no memory: the caller owns a struct host_calls, and a struct host_call for each call,
- * and these functions alone change them. One thread at a time calls them for one host. */
+ * and these functions alone change them. One thread at a time calls them for one host. Of a call that is over its ticket and any of the last four states
+ * are enough, so its struct may go: one for all of these is brought in its place, with the ticket that is asked for. */
 #ifndef HOST_CALLS_H
 #define HOST_CALLS_H
 

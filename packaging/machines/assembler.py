@@ -1,4 +1,4 @@
-"""pidtab.S and log_turns.S: proved functions for each machine, as the assembler that the compiler made of them; pidtab.S by the names under which
+"""pidtab.S, host_calls.S and log_turns.S: proved functions for each machine, as the assembler that the compiler made of them; pidtab.S by the names under which
 bindings/c calls them."""
 
 import re

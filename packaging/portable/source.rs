@@ -2,8 +2,9 @@
 use std::env;
 
 const MACHINES: [&str; 3] = ["x86_64", "aarch64", "riscv64"];
-const FILES: [&str; 8] = [
+const FILES: [&str; 9] = [
     "pidtab.S",
+    "host_calls.S",
     "heap.c",
     "guard.c",
     "guard_replica.c",

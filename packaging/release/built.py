@@ -48,7 +48,7 @@ def check_report(file, target, commit, wanted):
 
 def sources_in(folder):
     """What there is of proved functions as sources."""
-    return sorted(it for name in ("pidtab.[Sc]", "log_turns.S") for it in folder.glob(name))
+    return sorted(it for name in ("pidtab.[Sc]", "host_calls.S", "log_turns.S") for it in folder.glob(name))
 
 
 def check_headers(source, library):

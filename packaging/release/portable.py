@@ -1,11 +1,13 @@
-"""The library as sources that need a C compiler alone: pidtab.S, with what the checker's compiler made of the proved functions, and the C around it."""
+"""The library as sources that need a C compiler alone: what the checker's compiler made of the proved functions, and the C around it."""
 
 import shutil
 
 from release.files import settle, write_tarball, write_text
 
 AROUND = ("heap", "guard", "guard_replica", "settings", "follow", "threads", "saved_file")
-HEADERS = ("pidtab.h", "pidtab_saved.h", "pidtab_replica.h")
+HEADERS = ("pidtab.h", "pidtab_saved.h", "pidtab_replica.h", "host_calls.h")
+# Beside pidtab.S: the machine for the calls of a host.
+CALLS = "host_calls.S"
 # Of the C around it alone: they are built with it, and not installed.
 BESIDE = ("proved.h", "guard.h", "threads.h")
 # Beside the assembler, where it is built; it takes the place of all other sources.
@@ -15,7 +17,7 @@ ONE_FILE = "pidtab.c"
 def add_sources(source, built, folder, head=""):
     """Puts the sources into a folder, each with lines before it."""
     folder.mkdir(parents=True, exist_ok=True)
-    files = [built.assembler, *(source.folder / "bindings/c" / f"{it}.c" for it in AROUND)]
+    files = [built.assembler, built.assembler.with_name(CALLS), *(source.folder / "bindings/c" / f"{it}.c" for it in AROUND)]
     for file in files:
         write_text(folder / file.name, head + file.read_text(encoding="utf-8"))
     for name in (*HEADERS, *BESIDE):

@@ -1,24 +1,23 @@
-"""The proved machine for the calls of a host beside the host in Python: both have the same calls, log, times and ends, and decide the same.
+"""The host in Python beside one that only does what the proved machine says: both have the same calls, log, times and ends, and the same becomes of each
+call. So the host uses the machine as it is to be used.
 
 The log is made here, by the rules of docs/CLUSTER.md: entries come late, twice or never, answers are lost, sessions end, and snapshots take the
-place of entries. The machine is that of `crates/host_calls/out/libhost_calls.a`, which `rt lib` makes there, or of the archive that PIDTAB_HOST_CALLS names.
+place of entries.
 """
 
-import ctypes
 import random
 import re
-import shutil
-import tempfile
 import unittest
 from collections.abc import Callable, Sequence
 from pathlib import Path
 from typing import NamedTuple
 from unittest import mock
 
-from chaos.machine import ARCHIVE, FUNCTIONS, TOP, HostCall, HostCalls, MachineHost, Outcome, Put, PutStep, Reading, State, Taken, Told, load_machine
-from pidtab import MemoryLog, NotKnown
+from chaos.machine import MachineHost
+from pidtab import MemoryLog, NotKnown, find_library
 from pidtab.hosts import replica as replica_module
 from pidtab.hosts import submitted as submitted_module
+from pidtab.hosts.calls import FUNCTIONS, HostCall, HostNumbers, LogOutcome, Put, PutStep, Reading, State, Taken, Told
 from pidtab.hosts.crew import Crew
 from pidtab.hosts.log import Progress
 from pidtab.hosts.log_entries import OPEN, Asked, Ended, Opened, Settings, read_entry, write_calls, write_end, write_settings
@@ -26,12 +25,14 @@ from pidtab.hosts.machine import Machine, NoMemory
 from pidtab.hosts.replica import Replica
 from pidtab.hosts.submitted import Part, Submitted
 from tests.stand_in import StandIn
+from tests.ways import need_calls
+
+HEADER = Path(__file__).resolve().parents[3] / "bindings" / "c" / "host_calls.h"
 
 SETTINGS = Settings(2, 32768, 1)
 
-# Bytes that a part and an entry have at most in these runs; and so many bytes of the machine, whose bound is 512 KiB, are one here.
-PART_BYTES, MOST_BYTES = 24, 64
-SCALE = 512 * 1024 // MOST_BYTES
+# Bytes that a part has at most in these runs; and so many bytes of the machine, whose bound for an entry is 512 KiB, are one here.
+PART_BYTES, SCALE = 24, 512 * 1024 // 64
 
 RUNS, STEPS = 300, 120
 
@@ -65,7 +66,7 @@ class SessionRule:
     def __init__(self) -> None:
         self.last: dict[int, int] = {}
 
-    def take(self, position: int, data: bytes) -> Outcome | None:
+    def take(self, position: int, data: bytes) -> LogOutcome | None:
         """Takes the next entry: what is made of it, if it has calls."""
         entry = read_entry(data)
         if isinstance(entry, Opened):
@@ -76,14 +77,14 @@ class SessionRule:
             return self._ask(entry)
         return None
 
-    def _ask(self, asked: Asked) -> Outcome:
+    def _ask(self, asked: Asked) -> LogOutcome:
         last = self.last.get(asked.session)
         if last is None:
-            return Outcome.GONE
+            return LogOutcome.GONE
         if asked.sequence == last + 1:
             self.last[asked.session] = asked.sequence
-            return Outcome.MADE
-        return Outcome.REPEATED if asked.sequence <= last else Outcome.GAP
+            return LogOutcome.MADE
+        return LogOutcome.REPEATED if asked.sequence <= last else LogOutcome.GAP
 
 
 class OneLog:
@@ -91,7 +92,7 @@ class OneLog:
 
     def __init__(self) -> None:
         self.items: list[tuple[int, bytes]] = []
-        self.outcomes: list[Outcome | None] = []
+        self.outcomes: list[LogOutcome | None] = []
         self.snapshots: list[bytes] = []
         self.sessions: list[dict[int, int]] = []
         self._rule, self._keeper = SessionRule(), Machine(StandIn(), SETTINGS)
@@ -114,10 +115,10 @@ class OneLog:
 class Game:
     """One generated run: the same comes to both hosts, and what they decide is compared after each step."""
 
-    def __init__(self, test: unittest.TestCase, library: ctypes.CDLL, seed: int) -> None:
+    def __init__(self, test: unittest.TestCase, seed: int) -> None:
         self.test, self.random, self.now = test, random.Random(seed), 0
         self.python = Replica(MemoryLog(), 32768, StandIn, 1.0, lambda _: Nobody())
-        self.machine = MachineHost(library)
+        self.machine = MachineHost(find_library())
         self.log, self.read = OneLog(), 0
         self.log.land(write_settings(SETTINGS), 1)
         self.read_on()
@@ -127,7 +128,7 @@ class Game:
         self.came: set[str] = set()
 
     def play(self) -> None:
-        """Plays steps by chance, and then ends."""
+        """Plays steps by chance, and then has all calls over: by a log that goes well, or by a stop."""
         steps = [self.submit, self.submit, self.send, self.send, self.send, self.read_on, self.read_on, self.read_on, self.come_late, self.others]
         steps += [self.cancel, self.pass_time, self.end_session, self.load, self.begin_anew]
         weights = [4, 4, 4, 4, 4, 4, 4, 4, 3, 1, 2, 1, 1, 1, 1]
@@ -136,36 +137,38 @@ class Game:
             if step():
                 self.came.add(step.__name__)
             self.compare()
-        self.settle()
-        if self.random.random() < 0.5:
-            self.python.stop(None, "the table was closed")
-            self.machine.stop()
-            self.compare()
+        self.random.choice([self.settle, self.stop])()
+        self.test.assertEqual([it for it in self.all if not it.submitted.done()], [])
 
     def settle(self) -> None:
-        """The log goes well, and all is read: then each call is over."""
+        """The log goes well, and all is read."""
         for _ in range(4 * STEPS):
             if not self.send(well=True) and not self.read_on():
                 break
             self.compare()
-        self.test.assertEqual([it for it in self.all if not it.submitted.done()], [])
+
+    def stop(self) -> None:
+        """Both end."""
+        self.python.stop(None, "the table was closed")
+        self.machine.stop()
+        self.compare()
 
     def submit(self) -> bool:
         """Some lines are submitted, that go into one part or several."""
         lines = [b"fork %d" % self.random.randint(1, 9) for _ in range(self.random.choice([1, 1, 2, 5, 9]))]
         deadline = self.now + self.random.randint(40, 60) if not self.all else max(self.all[-1].deadline, self.now + 40)
-        submitted = Submitted(lines, deadline, lambda: False)
+        submitted = Submitted(lines, deadline, self.python.calls, lambda: False)
         self.python.submit(submitted)
-        calls = [self.machine.submit(len(it.lines), it.size * SCALE, deadline) for it in submitted.parts]
+        calls = [self.machine.submit(len(it.texts), it.entry_size, deadline) for it in submitted.parts]
         self.all.append(Both(submitted, calls, deadline))
         return True
 
     def send(self, well: bool = False) -> bool:
         """Both say what is put, which is tried once: it comes, or comes later, or never, and the log answers or not."""
-        wanted = self.next_of_python()
+        wanted = self.python.next_entry() if self.python.has_to_send() else None
         kind, session, sequence = self.machine.next_entry()
         if wanted is None:
-            # Calls that were given up are in the queue of the machine yet, and have a session opened.
+            # What is cancelled before the host looks at it never gets to its machine; here it is in the queue, and has a session opened.
             self.test.assertIn(kind, (Put.REST, Put.OPEN))
             return False
         if wanted == OPEN:
@@ -180,22 +183,10 @@ class Game:
         self.try_entry(wanted, well, lambda position: (self.python.sent(position), self.test.assertTrue(self.machine.acknowledge(session, sequence))))
         return True
 
-    def next_of_python(self) -> bytes | None:
-        """What the host in Python puts: nothing for an entry that is not wanted any more, and then the next one.
-
-        For such an entry it opens a session, where the machine does not, so that goes away before.
-        """
-        if self.python.batch is not None and not self.python.is_wanted(self.python.batch):
-            self.python.batch = None
-        wanted = None
-        while wanted is None and self.python.has_to_send():
-            wanted = self.python.next_entry()
-        return wanted
-
     def lines_of(self, ticket: int) -> Sequence[bytes]:
         """The lines of a call."""
         parts = [part for it in self.all for part in it.submitted.parts]
-        return parts[ticket].lines
+        return parts[ticket].texts
 
     def try_entry(self, data: bytes, well: bool, answer: Callable[[int], object]) -> None:
         """Puts an entry by one try."""
@@ -290,14 +281,14 @@ class Game:
 
     def compare(self) -> None:
         """What became of each call is the same."""
-        self.test.assertEqual(self.python.session, self.machine.session)
+        self.test.assertEqual(self.python.calls.session, self.machine.session)
         for both in self.all:
             self.test.assertEqual(seen_of(both.submitted), told_of(both.calls), [State(it.state).name for it in both.calls])
 
 
 def size_of(part: Part) -> int:
-    """The bytes of a part in an entry: none where it is over, which the machine does not count and the host in Python does."""
-    return 0 if part.submitted.done() else sum(map(len, part.lines)) + len(part.lines)
+    """The bytes of a part in an entry, as the machine is told in these runs."""
+    return SCALE * (sum(map(len, part.texts)) + len(part.texts))
 
 
 def seen_of(submitted: Submitted) -> object:
@@ -329,7 +320,7 @@ class Header(unittest.TestCase):
     """What C has of the machine is what is used here."""
 
     def setUp(self) -> None:
-        text = (TOP / "bindings" / "c" / "host_calls.h").read_text(encoding="utf-8")
+        text = HEADER.read_text(encoding="utf-8")
         self.text = re.sub(r"/\*.*?\*/", "", text, flags=re.DOTALL)
 
     def body_of(self, what: str) -> str:
@@ -339,33 +330,26 @@ class Header(unittest.TestCase):
         return found[1]
 
     def test_the_choices(self) -> None:
-        choices = {"host_call_state": State, "host_put": Put, "host_taken": Taken, "host_outcome": Outcome, "host_reading": Reading, "host_told": Told}
+        choices = {"host_call_state": State, "host_put": Put, "host_taken": Taken, "host_outcome": LogOutcome, "host_reading": Reading, "host_told": Told}
         for name, choice in choices.items():
             found = {words.rpartition("_")[2]: int(number) for words, number in re.findall(r"HOST_(\w+) = (\d+)", self.body_of(f"enum {name}"))}
             self.assertEqual(found, {it.name.rpartition("_")[2]: it.value for it in choice}, name)
 
     def test_the_fields(self) -> None:
-        for name, fields in {"host_call": HostCall, "host_calls": HostCalls, "host_put_step": PutStep}.items():
+        for name, fields in {"host_call": HostCall, "host_calls": HostNumbers, "host_put_step": PutStep}.items():
             found = re.findall(r"\w+(?=[,;])", self.body_of(f"struct {name}"))
             self.assertEqual(found, [it[0] for it in fields._fields_], name)
 
     def test_the_functions(self) -> None:
-        self.assertEqual(set(re.findall(r"host_calls_(\w+)\(", self.text)), set(FUNCTIONS))
+        self.assertEqual(set(re.findall(r"host_calls_\w+(?=\()", self.text)), set(FUNCTIONS))
 
 
-@unittest.skipUnless(ARCHIVE.exists() and shutil.which("cc"), f"needs {ARCHIVE}, which `rt lib` makes in crates/host_calls, and a C compiler")
 class Beside(unittest.TestCase):
     """The machine and the host in Python."""
 
     def setUp(self) -> None:
-        folder = tempfile.TemporaryDirectory()
-        self.addCleanup(folder.cleanup)
-        self.library = load_machine(Path(folder.name))
-        for where, name, value in (
-            (submitted_module, "PART_BYTES", PART_BYTES),
-            (replica_module, "MOST_BYTES", MOST_BYTES),
-            (Part, "size", property(size_of)),
-        ):
+        need_calls()
+        for where, name, value in ((submitted_module, "PART_BYTES", PART_BYTES), (Part, "entry_size", property(size_of))):
             patch = mock.patch.object(where, name, value)
             patch.start()
             self.addCleanup(patch.stop)
@@ -373,10 +357,12 @@ class Beside(unittest.TestCase):
     def test_they_decide_the_same(self) -> None:
         came: set[str] = set()
         for seed in range(RUNS):
-            with self.subTest(seed=seed):
-                game = Game(self, self.library, seed)
+            game = Game(self, seed)
+            try:
                 game.play()
-                came |= game.came
+            except AssertionError as fault:
+                raise AssertionError(f"by the seed {seed}: {fault}") from fault
+            came |= game.came
         self.assertEqual(came, {"submit", "send", "read_on", "come_late", "others", "cancel", "pass_time", "end_session", "load", "begin_anew"})
 
 

@@ -15,7 +15,7 @@ from cluster.load import table_kind
 from cluster.postgres import need_postgres
 from cluster.test_etcd import environment
 from pidtab import Process
-from tests.ways import need_library, need_program
+from tests.ways import need_calls, need_library, need_program
 
 PACKAGE = Path(__file__).resolve().parents[1]
 EDITS = sorted((PACKAGE / "cluster" / "wrong").glob("*.edit"))
@@ -60,6 +60,7 @@ class Wrong(unittest.TestCase):
             folder = Path(name) / "python"
             shutil.copytree(PACKAGE, folder, ignore=shutil.ignore_patterns("__pycache__"))
             test = plant(edit.read_text(encoding="utf-8"), folder / "pidtab")
+            need_calls()
             if test.startswith("cluster.test_postgres."):
                 need_postgres()
             elif test.startswith("cluster."):
@@ -71,7 +72,7 @@ class Wrong(unittest.TestCase):
         self.assertNotRegex(done.stderr, r"SyntaxError|NameError|ImportError|_FailedTest")
 
     def test_each_is_found(self) -> None:
-        self.assertGreater(len(EDITS), 67)
+        self.assertGreater(len(EDITS), 77)
         for edit in EDITS:
             with self.subTest(edit.stem):
                 self.check(edit)

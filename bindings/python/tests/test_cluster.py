@@ -27,6 +27,7 @@ from tests.stand_in import StandIn
 from tests.test_ends import in_child
 from tests.test_interrupts import CallInterrupter, interrupts
 from tests.test_replicated import NO_DIGEST, Flaky, interrupt_package, tell_hang
+from tests.ways import need_calls
 
 # Longer than any answer, in seconds.
 LONG = 20.0
@@ -41,7 +42,7 @@ PACKAGE = os.path.dirname(pidtab.__file__)
 # What a caller's thread runs, with what of the library has locks.
 FILES = {
     *(os.path.join(PACKAGE, f"{name}.py") for name in ("calls", "changed")),
-    *(os.path.join(PACKAGE, "hosts", f"{name}.py") for name in ("cluster", "cluster_threads", "replica", "replicated", "shared_threads", "submitted")),
+    *(os.path.join(PACKAGE, "hosts", f"{name}.py") for name in ("calls", "cluster", "cluster_threads", "own_calls", "replica", "replicated", "shared_threads", "submitted")),
     concurrent.futures._base.__file__,
     contextlib.__file__,
     threading.__file__,
@@ -56,6 +57,10 @@ def cluster_threads() -> list[threading.Thread]:
 def names_of(path: str, body: JSON) -> list[bytes]:
     """The logs into which a call puts something."""
     return list(dict.fromkeys(key.partition(b":")[0] for key in keys_put(path, body)))
+
+
+def setUpModule() -> None:
+    need_calls()
 
 
 class Clusters(unittest.TestCase):

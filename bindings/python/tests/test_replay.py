@@ -13,7 +13,7 @@ from pathlib import Path
 from pidtab import LibraryFault, MemoryLog, Process, Replicated, Table, find_library, find_program
 from pidtab.hosts.log_entries import MOST_SESSIONS
 from pidtab.library import load_library
-from tests.ways import need_library, need_program
+from tests.ways import need_calls, need_library, need_program
 
 SCRIPT = Path(__file__).resolve().parents[1] / "bin" / "pidtab-replay"
 SETTINGS = b"pidtab-log 1 pid_max 32768 model 1"
@@ -212,6 +212,7 @@ class Replays(unittest.TestCase):
     def test_what_replicas_write(self) -> None:
         kind = Process if self.way[0] == "--program" else Table
         (need_program if kind is Process else need_library)()
+        need_calls()
         log, rows = MemoryLog(7), []
         with Replicated(log, table=kind) as one, Replicated(log, table=kind) as two:
             for table in (one, two, one, two):

@@ -1,6 +1,6 @@
 """One table on many hosts, by a log in memory and a table in pure Python: what is answered, what is refused, and what an end or an interrupt leaves."""
 
-import concurrent.futures._base
+import concurrent.futures
 import contextlib
 import copy
 import gc
@@ -18,12 +18,14 @@ from unittest import mock
 
 import pidtab
 from pidtab import Diverged, EtcdLog, Following, LibraryFault, LogFault, MemoryLog, NotKept, NotKnown, Replicated, TableClosed
+from pidtab.hosts import calls
 from pidtab.hosts.log_entries import MOST_SESSIONS, OPEN, Asked, Settings, read_entry, write_calls, write_end, write_settings
 from pidtab.hosts.memory_log import MemoryFollowing
 from tests.alarms import alarms
 from tests.stand_in import StandIn
 from tests.test_ends import OTHERS, in_child, run_python
 from tests.test_interrupts import CallInterrupter, interrupts
+from tests.ways import need_calls
 
 SETTINGS = write_settings(Settings(2, 32768, 1))
 NO_DIGEST = "0" * 16
@@ -36,7 +38,7 @@ PACKAGE = os.path.dirname(pidtab.__file__)
 # What a caller's thread runs, with what of the library has locks.
 FILES = {
     *(os.path.join(PACKAGE, f"{name}.py") for name in ("calls", "changed")),
-    *(os.path.join(PACKAGE, "hosts", f"{name}.py") for name in ("memory_log", "replica", "replicated", "submitted")),
+    *(os.path.join(PACKAGE, "hosts", f"{name}.py") for name in ("calls", "memory_log", "own_calls", "replica", "replicated", "submitted")),
     concurrent.futures._base.__file__,
     contextlib.__file__,
     threading.__file__,
@@ -54,6 +56,10 @@ def interrupt_package(number: int, frame: FrameType | None) -> None:
 def tell_hang(number: int, frame: FrameType | None) -> None:
     """The handler of a signal that ends a test."""
     raise AssertionError(f"no answer within {LONG} seconds")
+
+
+def setUpModule() -> None:
+    need_calls()
 
 
 class SwitchedLog(MemoryLog):
@@ -551,6 +557,45 @@ class Ends(Hosts):
         with self.assertRaises(CancelledError):
             second.result()
 
+    def test_a_cancelled_one_of_many_parts(self) -> None:
+        table, many = self.open(), ["getpid 1" + " " * 100] * 10_000
+        table.getpid(1)
+        self.log.on.clear()
+        first = table.submit(["fork 1"])
+        self.wait_until(lambda: first.sent)
+        second = table.submit(many)
+        self.assertGreater(len(second.parts), 5)
+        self.assertTrue(second.cancel() and second.cancel())
+        self.log.on.set()
+        self.assertEqual((table.fork(1).root, table._replica.machine.calls), (3, 3))
+        # Who waits for many is told of it, as it never runs.
+        self.assertEqual(concurrent.futures.wait([first, second], LONG).not_done, set())
+        third = table.submit(many)
+        self.assertEqual(len(third.result(LONG)), 10_000)
+        self.assertFalse(third.cancel())
+
+    def test_a_cancel_that_is_interrupted(self) -> None:
+        """After each step of it: then it was cancelled, or was not, and who waits is told either."""
+        table = self.open()
+        table.getpid(1)
+        is_interrupted, places, ends = True, 0, set()
+        while is_interrupted:
+            self.log.on.clear()
+            sent = table.submit(["fork 1"])
+            self.wait_until(lambda sent=sent: sent.sent)  # type: ignore[misc]
+            future, behind = table.submit(["fork 1"]), table.submit(["fork 1"])
+            places += 1
+            with alarms(tell_hang, LONG):
+                is_interrupted = CallInterrupter(places, FILES).run(future.cancel)
+            self.log.on.set()
+            self.assertEqual(concurrent.futures.wait([future, behind], LONG).not_done, set())
+            made = len(table.list().tasks)
+            self.assertEqual(behind.result(), (f"child {made} root {made}",))
+            self.assertEqual(sent.result(), (f"child {made - 2 + future.cancelled()} root {made - 2 + future.cancelled()}",))
+            ends.add(future.cancelled())
+        self.assertGreater(places, 5)
+        self.assertEqual(ends, {False, True})
+
     def test_an_interrupt(self) -> None:
         table = self.open()
         table.getpid(1)
@@ -570,6 +615,7 @@ class Ends(Hosts):
         table = self.open()
         asks: Sequence[Callable[[], object]] = [
             lambda: table.fork(1), lambda: table.submit(["fork 1"]).result(), lambda: table.submit(["fork 1"]).exception(), table.list, table.catch_up,
+            lambda: table.submit(["fork 1"]).cancel(),
         ]  # fmt: skip
         for ask in asks:
             interrupted: list[CallInterrupter] = []
@@ -659,6 +705,7 @@ class Ends(Hosts):
         for ask in (lambda: table.fork(1), lambda: table.list(), lambda: table.submit([]), lambda: table.catch_up(), lambda: table.ask.getpid(1)):
             self.assertEqual(in_child(ask), f"closed: {OTHERS}")
         self.assertIn("a forked child gets no answer", in_child(future.result))
+        self.assertEqual(in_child(future.cancel), "False")
         self.assertEqual(in_child(table.close), "None")
         self.assertIn("of the parent process", in_child(lambda: repr(table)))
         self.log.on.set()
@@ -709,6 +756,17 @@ class Misuse(Hosts):
         with mock.patch.dict(os.environ, {"PIDTAB_LIBRARY": "/no/such/library", "PIDTAB": "/no/such/program"}):
             self.check(pidtab.LibraryMissing, "build it with `make lib`", lambda: Replicated(self.log))
             self.check(pidtab.ProgramMissing, "build it with `make build`", lambda: Replicated(self.log, table=pidtab.Process))
+            # A table of another kind needs the library too, for its calls.
+            table = StandIn()
+            with mock.patch.object(table, "close") as close:
+                self.check(pidtab.LibraryMissing, "build it with `make lib`", lambda: self.open(lambda pid_max: table))
+            close.assert_called_once_with()
+
+    def test_an_earlier_library(self) -> None:
+        self.addCleanup(calls.load_calls.cache_clear)
+        calls.load_calls.cache_clear()
+        with mock.patch.dict(calls.FUNCTIONS, {"host_calls_later": (None, [])}):
+            self.check(LibraryFault, "has no function host_calls_later, as the library of an earlier release", self.open)
 
     def test_a_position_without_a_digest(self) -> None:
         table = self.open()

@@ -11,11 +11,16 @@ from pidtab.hosts.salvage import Salvaged, begin, salvage
 from tests.keeping import Keeping
 from tests.memory_etcd import log_in
 from tests.stand_in import StandIn
+from tests.ways import need_calls
 
 
 def open_stand_in(pid_max: int) -> StandIn:
     """A table of a host."""
     return StandIn(pid_max=pid_max)
+
+
+def setUpModule() -> None:
+    need_calls()
 
 
 class Salvages(Keeping):

@@ -13,11 +13,16 @@ from pidtab.hosts.snapshots import read_served
 from tests.keeping import Keeping, StillLog, cuts
 from tests.memory_etcd import cluster_in, log_in
 from tests.stand_in import StandIn
+from tests.ways import need_calls
 
 # A revision that was set back is after that which a host has read, or ahead of it by so many writes of others.
 OTHERS = (0, 500)
 
 NOTICED = "etcd was set back to an earlier state, or the entry was deleted; nothing was put"
+
+
+def setUpModule() -> None:
+    need_calls()
 
 
 class SetBack(Keeping):

@@ -12,12 +12,16 @@ from pidtab.hosts.monitoring import Change
 from tests.keeping import LONG, Keeping
 from tests.stand_in import StandIn
 from tests.test_replicated import Flaky
-from tests.ways import need_library
+from tests.ways import need_calls, need_library
 
 
 def labels_of(table: Replicated | Table) -> dict[int, str]:
     """The labels of a list."""
     return {it.root: it.label for it in table.list().tasks if it.label}
+
+
+def setUpModule() -> None:
+    need_calls()
 
 
 class FlakyLog(MemoryLog):

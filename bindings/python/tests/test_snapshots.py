@@ -17,6 +17,11 @@ from pidtab.hosts.snapshot import PIECE_BYTES, Snapshot, pack, read_snapshot, su
 from pidtab.hosts.snapshots import AGREED, SERVED, is_agreed, piece_name, put_sum, read_served
 from tests.keeping import LONG, MANY, Crash, Keeping, StillLog, announces, cuts, first_kept
 from tests.stand_in import StandIn
+from tests.ways import need_calls
+
+
+def setUpModule() -> None:
+    need_calls()
 
 
 class Plain(Log):

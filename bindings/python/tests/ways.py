@@ -17,6 +17,7 @@ import pidtab.seat
 import pidtab.table
 from pidtab import ALL, Ask, Calls, LibraryFault, Process, ProgramMissing, Refusal, Seat, Table, find_library, find_program
 from pidtab.forms import method_of, say_answer
+from pidtab.hosts.calls import load_calls
 from pidtab.library import load_library
 
 DEFAULT_PID_MAX = 32768
@@ -52,6 +53,14 @@ def need_library() -> None:
     """Skips what needs the library, where it is not there."""
     try:
         load_library(find_library(), True)
+    except LibraryFault as fault:
+        raise unittest.SkipTest(str(fault)) from fault
+
+
+def need_calls() -> None:
+    """Skips what needs the machine for the calls of a host, where the library is not there, or has none."""
+    try:
+        load_calls(find_library())
     except LibraryFault as fault:
         raise unittest.SkipTest(str(fault)) from fault
 

@@ -11,13 +11,13 @@ from contextlib import suppress
 from pidtab.changed import Changed
 from pidtab.faults import TableClosed
 from pidtab.hosts.backoff import Backoff
-from pidtab.hosts.crew import LAST_SECONDS, LOOK, Crew
+from pidtab.hosts.crew import LAST_SECONDS, TimedCrew
 from pidtab.hosts.etcd import JSON, Etcd, decode, encode
 from pidtab.hosts.etcd_cells import behind
 from pidtab.hosts.etcd_log import QUIET_TIMES, EtcdLog, Events, append_all, read_behind
 from pidtab.hosts.etcd_watch import Changes, Compacted, EtcdWatch, revision_of
 from pidtab.hosts.log import Progress
-from pidtab.hosts.replica import CLOSED, Replica
+from pidtab.hosts.replica import Replica
 from pidtab.hosts.shared_threads import Clock, Job, Pool, Strand, work
 from pidtab.hosts.submitted import deadline_behind
 
@@ -40,11 +40,11 @@ CLUSTER_CLOSED = "the Cluster was closed"
 MARK = b"~mark"
 
 
-class Feed(Crew):
+class Feed(TimedCrew):
     """What the threads of a Cluster do for one of its tables."""
 
     def __init__(self, crew: "SharedCrew", replica: Replica, log: EtcdLog) -> None:
-        self.replica = replica
+        super().__init__(replica, crew.clock)
         self.threads = crew.threads
         # What the watch has told and was not applied: changes; a fault; or None where the table is to read its keys by itself.
         self.inbox: "deque[Changes | Exception | None]" = deque()
@@ -52,9 +52,6 @@ class Feed(Crew):
         self.key = log.prefix
         # Whether the router has it told what comes.
         self.joined = False
-        # Whether somebody has it end, and whether it has ended.
-        self.wished = False
-        self.ended = False
         self._crew = crew
         self._events = Events(log, 0)
         # Whether it reads its keys by itself. Meanwhile nothing is taken out of the inbox.
@@ -65,9 +62,6 @@ class Feed(Crew):
         self._appender = Strand(crew.appenders, crew.clock, self._append)
         # Whether an entry of it is being put, and whether the last try has failed.
         self._sends = self.has_failed = False
-        self._end_by = 0.0
-        # Whether its session is to be ended, and whether that was tried.
-        self._says_end = self._said_end = False
 
     # What its replica asks.
 
@@ -83,23 +77,21 @@ class Feed(Crew):
         self.inbox.clear()
 
     def tell(self) -> None:
-        if self.replica.queue:
+        if self.replica.calls.has_new:
             self._appender.wake()
-        if self.replica.closing:
-            self._crew.clock.poke()
+        super().tell()
 
     def expect(self, position: int) -> None:
         self._crew.router.expect(self, position)
-
-    def wish(self) -> None:
-        self.wished = True
-        self._crew.clock.jobs.put(self.begin_to_end)
 
     def wait(self) -> None:
         self.replica.changed.wait_for(lambda: self.ended)
 
     def do(self, job: Job) -> None:
         self._crew.readers.jobs.put(job)
+
+    def end_session(self) -> None:
+        self._appender.wake()
 
     # What the router asks.
 
@@ -170,10 +162,9 @@ class Feed(Crew):
                 return 0.0
             self._sends = True
             self._crew.sender.put(self, entry)
-        elif self._says_end and not self._said_end:
+        elif self.says_end and not self.said_end:
             replica.guard(replica.end_session)
-            self._said_end = True
-            self._crew.clock.poke()
+            self.has_ended_session()
         return None
 
     # What the sender tells.
@@ -197,48 +188,9 @@ class Feed(Crew):
         self._sends = False
         self.replica.stop(fault, f"the replica has stopped, {fault}")
 
-    # What the thread that watches the time does.
-
-    def next_time(self) -> float:
-        """When it is to be looked at."""
-        if self.replica.closing:
-            return min(self._end_by, time.monotonic() + LOOK)
-        return self.replica.first_deadline()
-
-    def look(self) -> None:
-        """Fails what waits longer than the patience, and goes on with an end."""
-        if time.monotonic() >= self.replica.first_deadline():
-            self.replica.expire()
-        if self.replica.closing and self._is_to_stop():
-            self._stop()
-
     def begin_to_end(self) -> None:
-        """Has what was submitted answered, and then the table end."""
-        if not (self.replica.closing or self.ended):
-            self._end_by = deadline_behind(self.replica.patience)
-            self.replica.begin_to_end()
-            self._crew.add(self)
-
-    def _is_to_stop(self) -> bool:
-        """Whether nothing more is waited for: answers, and then the end of the session."""
-        replica, is_over = self.replica, time.monotonic() >= self._end_by
-        if self._says_end:
-            return self._said_end or replica.stopped or replica.hurried or is_over
-        if not (is_over or replica.is_unwanted()):
-            return False
-        if not replica.is_idle():
-            return True
-        self._says_end, self._end_by = True, deadline_behind(LAST_SECONDS)
-        self._appender.wake()
-        return False
-
-    def _stop(self) -> None:
-        try:
-            self.replica.stop(None, CLOSED)
-        finally:
-            self.ended = True
-            self._crew.feeds.discard(self)
-            self.replica.changed.notify_all()
+        super().begin_to_end()
+        self._crew.add(self)
 
 
 class Sender:
@@ -505,6 +457,7 @@ class SharedCrew:
             self.clock.turn(min([time.monotonic() + IDLE, *(it.next_time() for it in self.feeds)]))
             for feed in tuple(self.feeds):
                 work(feed.look)
+            self.feeds -= {it for it in self.feeds if it.ended}
         self.router.close()
         for pool in self._pools:
             pool.end()

@@ -44,6 +44,16 @@ def diverged_snapshot(position: int, it: Announced) -> Diverged:
     return Diverged(f"behind entry {it.position} the digest is not the one here in the snapshot that entry {position} announces")
 
 
+def lost_entry(session: int, sequence: int) -> LogFault:
+    """The log lacks an entry of this host."""
+    return LogFault(f"the log has lost an entry of session {session} before number {sequence}")
+
+
+def foreign_entry(position: int, session: int, sequence: int | None) -> LogFault:
+    """A snapshot has an entry that this host has not put."""
+    return LogFault(f"the snapshot of entry {position} has entry {sequence} of session {session}, which this host has not put")
+
+
 def bad_snapshot(position: int, why: object) -> LogFault:
     """The text of a snapshot cannot be read."""
     return LogFault(f"the snapshot of entry {position} cannot be read: {why}")

@@ -4,7 +4,6 @@ import copy
 import logging
 import threading
 import time
-from collections import deque
 from collections.abc import Callable, Sequence
 from contextlib import suppress
 from typing import TypeVar
@@ -13,30 +12,29 @@ from pidtab.calls import Calls
 from pidtab.changed import Changed
 from pidtab.faults import Diverged, LogFault, NotKnown, ProgramFault, TableClosed
 from pidtab.hosts.backoff import Backoff
-from pidtab.hosts.crew import Crew
+from pidtab.hosts.crew import CLOSED, Crew
 from pidtab.hosts.log import CutLog, Following, Log, Progress
 from pidtab.hosts.log_entries import (
     ANNOUNCES,
     FORM,
     MODEL,
-    MOST_BYTES,
-    OPEN,
     SHORT_DIGEST,
     Announced,
-    Asked,
     Settings,
     Wanted,
     read_entry,
-    write_calls,
     write_end,
     write_settings,
 )
 from pidtab.hosts.machine import NoMemory, Outcome, text_of
 from pidtab.hosts.machines import open_machine
 from pidtab.hosts.monitoring import Change, Changes, Numbers, change_of
+from pidtab.hosts.own_calls import OwnCalls
 from pidtab.hosts.snapshots import Checker
-from pidtab.hosts.submitted import Part, Receipt, Submitted, deadline_behind
+from pidtab.hosts.submitted import Submitted, deadline_behind
 from pidtab.labels import Labels
+from pidtab.library import find_library
+from pidtab.table import Table
 
 T = TypeVar("T")
 
@@ -56,26 +54,12 @@ SOON = 0.02
 # At least so many tries of the log are made within the patience, if it answers at once.
 PATIENCE_TRIES = 8
 
-CLOSED = "the table was closed"
-
 # So many submits may wait for answers at once: each takes some 2 KB.
 MOST_WAITING = 100_000
 
 # Silent, unless the program has it written somewhere.
 LOGGER = logging.getLogger("pidtab")
 LOGGER.addHandler(logging.NullHandler())
-
-
-class Batch:
-    """The parts of one entry of calls."""
-
-    def __init__(self, session: int, sequence: int, parts: Sequence[Part], place: tuple[int, str]) -> None:
-        self.session = session
-        self.sequence = sequence
-        self.parts = parts
-        position, digest = place
-        lines = [line for part in parts for line in part.lines]
-        self.entry = write_calls(Asked(session, sequence, position, digest[:SHORT_DIGEST], lines))
 
 
 class Replica:
@@ -118,30 +102,22 @@ class Replica:
         self.replays = 0
         self.failed_at = 0
         self.changed = Changed()
-        self._have_nothing_to_send()
         self.following: Following | None = None
         self.table_lock = threading.Lock()
         # Its sums, if this host checks snapshots.
         self.checker = Checker() if checks else None
         self.machine = open_machine(open_table, self.settings)
-        if checks:
-            # A table that has no text says so before it is needed.
-            text_of(self.machine.table)
+        try:
+            self.calls = OwnCalls(library_of(self.machine.table), self.changed)
+            if checks:
+                # A table that has no text says so before it is needed.
+                text_of(self.machine.table)
+        except BaseException:
+            self.machine.table.close()
+            raise
         # The last entry that was applied, and the digest behind it. While the log is replayed it stays.
         self.place = (0, "")
         self.crew = hire(self)
-
-    def _have_nothing_to_send(self) -> None:
-        """What a host has before its first call."""
-        self.queue: deque[Part] = deque()
-        # What was sent and is not answered, by session and number.
-        self.pending: dict[tuple[int, int], Batch] = {}
-        self.waiting: deque[Submitted] = deque()
-        self.session = 0
-        self.sequence = 0
-        # What is being sent; and whether it is what opens a session.
-        self.batch: Batch | None = None
-        self.opens = False
 
     @property
     def threads(self) -> Sequence[threading.Thread]:
@@ -166,7 +142,7 @@ class Replica:
         """How it does."""
         now = time.monotonic()
         with self.changed:
-            waiting = [it.submitted_at for it in self.waiting if not it.done()]
+            waiting = [it.submitted_at for it in self.calls.waiting if not it.done()]
         age = now - self.snapshot_at if self.snapshot_at else None
         counts = (self.retries, self.not_known, self.all_replays)
         lag = now - min(waiting) if waiting else 0.0
@@ -202,10 +178,9 @@ class Replica:
         """Has calls made."""
         with self.changed:
             self.check_open()
-            if len(self.waiting) >= MOST_WAITING:
-                raise NotKnown(f"{len(self.waiting)} submits wait for the log already: the calls were not made", sent=False)
-            self.waiting.append(submitted)
-            self.queue.extend(submitted.parts)
+            if len(self.calls) >= MOST_WAITING:
+                raise NotKnown(f"{len(self.calls)} submits wait for the log already: the calls were not made", sent=False)
+            self.calls.add(submitted)
             self.tell()
 
     def check_open(self) -> None:
@@ -318,10 +293,7 @@ class Replica:
         with self.changed:
             first, self.stopped = not self.stopped, True
             self.fault = fault if first else self.fault
-            failed = [it for it in self.waiting if not it.done()]
-            self.waiting.clear()
-            self.queue.clear()
-            self.pending.clear()
+            ended = self.calls.stop()
             self.tell()
         following = self.following
         if following is not None:
@@ -329,9 +301,7 @@ class Replica:
             with suppress(ValueError):
                 following.close()
         self.crew.leave_log()
-        self.not_known += len(failed)
-        for it in failed:
-            it.fail(why, fault)
+        self.end(ended, why, fault)
         if first and fault is not None:
             LOGGER.error("the table of %r has stopped: %s", self.log, fault)
         if fault is None:
@@ -358,7 +328,7 @@ class Replica:
         if progress.snapshot is not None:
             text = progress.snapshot
             self.advance(progress.position, lambda: self.machine.load(progress.position, text))
-            self.skip(progress.position)
+            self.settle_snapshot(progress.position)
             self.snapshot_at = time.monotonic()
             # Whose numbers they are now is not told.
             self.labels.by_root.clear()
@@ -442,23 +412,6 @@ class Replica:
         except Exception as fault:
             self.stop(fault, f"the replica has stopped, {fault}")
 
-    def skip(self, position: int) -> None:
-        """A snapshot has come in the place of entries: what of this host's may be among them has no answer, and is never sent again."""
-        with self.changed:
-            if not self.session or self.session > position:
-                return
-            last = self.machine.last_of(self.session)
-            keys = [key for key in self.pending if last is None or key[1] <= last]
-            lost = {id(part.submitted): part.submitted for key in keys for part in self.pending.pop(key).parts}
-            # What was not sent goes on: its numbers are those behind the last one.
-            self.queue = deque([part for part in self.queue if id(part.submitted) not in lost])
-            if last is None:
-                self.session = 0
-            self.tell()
-        self.not_known += len(lost)
-        for it in lost.values():
-            it.fail("the log was cut before this host had read it")
-
     def note(self, position: int, digest: str) -> None:
         """Notes the digest behind an entry. Where the log is replayed, it has to be the one that was noted before."""
         if position == self.place[0] and digest != self.place[1]:
@@ -468,39 +421,26 @@ class Replica:
             self.place = (position, digest)
 
     def settle(self, outcome: Outcome) -> None:
-        """Answers an entry that is this host's."""
+        """Answers what an entry has, if it is this host's."""
         with self.changed:
-            if outcome.what == "repeated":
-                return
-            if outcome.what == "gap" and outcome.session == self.session:
-                raise LogFault(f"the log has lost an entry of session {outcome.session} before number {outcome.sequence}")
-            if outcome.what == "gone" and outcome.session == self.session:
-                self.renew()
-                return
-            batch = self.pending.pop((outcome.session, outcome.sequence), None)
+            ended = self.calls.read(outcome)
             self.tell()
-        if batch is not None and outcome.what == "made":
-            self.answer(batch, outcome.answers)
+        self.end(ended)
 
-    def answer(self, batch: Batch, answers: Sequence[str]) -> None:
-        """Hands the answers of an entry to those who wait for them."""
-        at = 0
-        for part in batch.parts:
-            count = len(part.lines)
-            part.submitted.answer(part, Receipt(batch.session, batch.sequence, at, count), answers[at : at + count])
-            at += count
+    def settle_snapshot(self, position: int) -> None:
+        """Says of what may be among the entries in whose place a snapshot has come, that nobody knows."""
         with self.changed:
-            while self.waiting and self.waiting[0].done():
-                self.waiting.popleft()
+            ended = self.calls.load(position, self.machine.last_of(self.calls.session))
             self.tell()
+        self.end(ended, "the log was cut before this host had read it")
 
-    def renew(self) -> None:
-        """Gives up a session that the log has ended: what was sent in it and not made there, never will be, so it is sent in a new one."""
-        parts = [part for _, batch in sorted(self.pending.items()) for part in batch.parts if not part.submitted.done()]
-        self.pending.clear()
-        self.queue.extendleft(reversed(parts))
-        self.session = 0
-        self.tell()
+    def end(self, ended: Sequence[Submitted], why: str = "", fault: Exception | None = None) -> None:
+        """Tells who waits what has ended. What they do then may run here."""
+        if ended:
+            self.not_known += sum([it.settle(why, fault) for it in ended])
+            with self.changed:
+                self.calls.drop_over()
+                self.tell()
 
     def lose(self, fault: Exception) -> float:
         """Counts how often the table was lost without a gain, and stops the replica behind a bound. How many seconds to wait before the next replay."""
@@ -538,26 +478,20 @@ class Replica:
     def has_to_send(self) -> bool:
         """Whether something goes into the log yet."""
         with self.changed:
-            return bool(self.queue or self.batch) and not self.stopped
+            return self.calls.may_put and not self.stopped and not (self.closing and self.calls.is_idle)
 
     def next_entry(self) -> bytes | None:
-        """What goes into the log now: all that waits, as far as it fits, as one entry. Behind a try with an unknown end that is the same again."""
-        self.opens = not self.session
-        if self.opens:
-            return OPEN
-        batch = self.batch = self.batch or self.take_batch()
-        if batch is not None and self.is_wanted(batch):
-            return batch.entry
-        self.batch = None
-        return None
+        """What goes into the log now, if anything does."""
+        ended: list[Submitted] = []
+        with self.changed:
+            entry = self.calls.next_entry(self.place, ended)
+        self.end(ended)
+        return entry
 
     def sent(self, position: int) -> None:
         """That entry is in the log."""
-        if self.opens:
-            with self.changed:
-                self.session, self.sequence = position, 0
-        else:
-            self.batch = None
+        with self.changed:
+            self.calls.sent(position)
 
     def send(self, backoff: Backoff) -> float:
         """Puts an entry into the log, if there is one to put, by one try. How many seconds to wait before the next one."""
@@ -573,37 +507,17 @@ class Replica:
 
     def end_session(self) -> None:
         """Ends the session, by one try: one that nobody ends goes when there are too many."""
-        if self.session and not self.stopped:
+        session = self.calls.session
+        if session and not self.stopped:
             with suppress(OSError):
-                self.log.append(write_end(self.session))
-
-    def take_batch(self) -> Batch | None:
-        """What goes into the next entry; None where nothing does."""
-        parts, size = [], 0
-        with self.changed:
-            while self.session and self.queue and size + self.queue[0].size <= MOST_BYTES:
-                part = self.queue.popleft()
-                if part.submitted.send():
-                    parts.append(part)
-                    size += part.size
-            if not parts or self.stopped:
-                return None
-            self.sequence += 1
-            batch = Batch(self.session, self.sequence, parts, self.place)
-            self.pending[batch.session, batch.sequence] = batch
-            return batch
-
-    def is_wanted(self, batch: Batch) -> bool:
-        """Whether an entry is still to be sent: it was not applied, and its session goes on."""
-        with self.changed:
-            return not self.stopped and (batch.session, batch.sequence) in self.pending
+                self.log.append(write_end(session))
 
     # Who watches the time, and ends the replica.
 
     def first_deadline(self) -> float:
         """When the first of the patiences is over."""
         with self.changed:
-            return self.waiting[0].deadline if self.waiting else deadline_behind(self.patience)
+            return next((it.deadline for it in self.calls.waiting), deadline_behind(self.patience))
 
     def begin_to_end(self) -> None:
         """Takes no more calls."""
@@ -614,23 +528,21 @@ class Replica:
     def is_unwanted(self) -> bool:
         """Whether nobody waits for an answer that may come yet."""
         with self.changed:
-            return self.stopped or self.hurried or all(it.done() for it in self.waiting)
+            return self.stopped or self.hurried or all(it.done() for it in self.calls.waiting)
 
     def is_idle(self) -> bool:
         """Whether nothing waits for an answer, and the session can be ended."""
         with self.changed:
-            return not (self.stopped or self.hurried or self.queue or self.pending)
+            return self.calls.is_idle and not (self.stopped or self.hurried)
 
     def expire(self) -> None:
         """Fails what waits longer than the patience."""
-        now, overdue = time.monotonic(), []
         with self.changed:
-            while self.waiting and (self.waiting[0].done() or self.waiting[0].deadline <= now):
-                overdue.append(self.waiting.popleft())
-            # What was not sent yet is not sent any more.
-            late = {id(it) for it in overdue}
-            self.queue = deque([part for part in self.queue if id(part.submitted) not in late])
+            ended = self.calls.expire(time.monotonic())
             self.tell()
-        self.not_known += sum(not it.done() for it in overdue)
-        for it in overdue:
-            it.fail(self.why_late())
+        self.end(ended, self.why_late())
+
+
+def library_of(table: Calls) -> str:
+    """Where the machine for the calls of a host is: in the library that its table has, or else in the one that is found."""
+    return table.library if isinstance(table, Table) else find_library()

@@ -229,7 +229,7 @@ class Replicated(Labelled, AskableCalls):
         super()._check_owner()
         # It holds the replica alone, so that a table that nobody has ends.
         replica = self._replica
-        submitted = Submitted(lines, deadline_behind(self.patience), lambda: replica.left)
+        submitted = Submitted(lines, deadline_behind(self.patience), replica.calls, lambda: replica.left)
         if not submitted.done():
             submitted.keeps = self
         try:

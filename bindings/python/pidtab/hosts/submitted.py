@@ -4,11 +4,20 @@ import time
 from collections.abc import Callable, Sequence
 from concurrent.futures import Future, InvalidStateError, TimeoutError
 from contextlib import suppress
-from typing import NamedTuple
+from typing import TYPE_CHECKING, NamedTuple
 
 from pidtab.changed import Changed
 from pidtab.faults import NotKnown, TableClosed
+from pidtab.hosts.calls import HostCall, State
 from pidtab.hosts.log_entries import LONGEST_LINE, PART_BYTES
+
+if TYPE_CHECKING:
+    from pidtab.hosts.own_calls import OwnCalls
+
+WAITS, ANSWERED = {State.QUEUED, State.ENTERED}, {State.ANSWERED}
+
+# So many ticks of the machine's clock are a second.
+TICKS = 10**9
 
 
 class Receipt(NamedTuple):
@@ -21,20 +30,20 @@ class Receipt(NamedTuple):
     count: int  # type: ignore[assignment]
 
 
-class Part:
-    """Lines of a submit that go into one entry."""
+class Part(HostCall):
+    """Lines of a submit that go into one entry: a call of the machine."""
 
-    __slots__ = ("lines", "number", "submitted")
-
-    def __init__(self, submitted: "Submitted", number: int, lines: Sequence[bytes]) -> None:
+    def __init__(self, submitted: "Submitted", texts: Sequence[bytes]) -> None:
+        super().__init__()
         self.submitted = submitted
-        self.number = number
-        self.lines = lines
+        self.texts = texts
+        # Once the machine has it answered.
+        self.answers: Sequence[str] = ()
 
     @property
-    def size(self) -> int:
+    def entry_size(self) -> int:
         """How many bytes it takes in an entry."""
-        return sum(map(len, self.lines)) + len(self.lines)
+        return sum(map(len, self.texts)) + len(self.texts)
 
 
 class Submitted(Future["tuple[str, ...]"]):
@@ -47,20 +56,17 @@ class Submitted(Future["tuple[str, ...]"]):
     # What a Future is at, which it has without a lock.
     _state: str
 
-    def __init__(self, lines: Sequence[bytes], deadline: float, is_left: Callable[[], bool]) -> None:
+    def __init__(self, lines: Sequence[bytes], deadline: float, calls: "OwnCalls", is_left: Callable[[], bool]) -> None:
         super().__init__()
         # In the place of the one that a Future has, which an interrupt may leave taken.
         self._condition = Changed()
         self.deadline = deadline
         self.submitted_at = time.monotonic()
-        # Whether some of it may be in the log.
-        self.sent = False
         # What has to stay open until it is answered.
         self.keeps: object = None
+        self._calls = calls
         self._is_left = is_left
-        self.parts = [Part(self, number, part) for number, part in enumerate(split_lines(lines))]
-        self._answers: list[Sequence[str]] = [()] * len(self.parts)
-        self._receipts: dict[int, Receipt] = {}
+        self.parts = [Part(self, part) for part in split_lines(lines)]
         if not self.parts:
             self.set_result(())
 
@@ -75,49 +81,69 @@ class Submitted(Future["tuple[str, ...]"]):
         return super().exception(0)
 
     def cancel(self) -> bool:
-        """Has its calls not made, if nothing of it was sent. Whether that went well."""
-        cancelled = super().cancel()
-        if cancelled:
+        """Has its calls not made, if nothing of it was sent. Whether that went well. A forked child cancels nothing."""
+        if self._is_left():
+            return False
+        with self._calls.lock:
+            is_cancelled = self.cancelled() or self._calls.cancel(self)
+        if is_cancelled:
+            super().cancel()
             self.keeps = None
-        return cancelled
+        return is_cancelled
+
+    @property
+    def sent(self) -> bool:
+        """Whether some of it may be in the log."""
+        return any(part.state in (State.ENTERED, State.ANSWERED, State.NOT_KNOWN) for part in self.parts)
 
     @property
     def receipts(self) -> Sequence[Receipt]:
         """Where its calls are in the log, part by part, of those that were answered."""
-        return [self._receipts[number] for number in sorted(self._receipts)]
+        return [Receipt(part.session, part.sequence, part.place, part.lines) for part in self.parts if part.state == State.ANSWERED]
 
     def rows(self) -> list[str]:
         """A row for each answered call, as `pidtab-replay --answers` reads it: session, sequence and place, the line, the answer."""
-        rows = []
-        for number, receipt in sorted(self._receipts.items()):
-            for place, (line, answer) in enumerate(zip(self.parts[number].lines, self._answers[number]), start=receipt.place):
-                rows.append(f"{receipt.session} {receipt.sequence} {place}\t{line.decode('utf-8', 'surrogateescape')}\t{answer}\n")
-        return rows
+        return [
+            f"{part.session} {part.sequence} {place}\t{line.decode('utf-8', 'surrogateescape')}\t{answer}\n"
+            for part in self.parts
+            for place, (line, answer) in enumerate(zip(part.texts, part.answers), start=part.place)
+        ]
 
-    def send(self) -> bool:
-        """Says that some of it may be in the log from now on; False where it was cancelled, or is over. For the sender alone, which has the lock."""
-        if not self.sent and not self.done():
-            self.sent = self.set_running_or_notify_cancel()
-        return self.sent and not self.done()
+    def begin(self) -> None:
+        """Says that some of it may be in the log from now on."""
+        if self._state == "PENDING":
+            self.set_running_or_notify_cancel()
 
-    def answer(self, part: Part, receipt: Receipt, answers: Sequence[str]) -> None:
-        """Takes the answers to one part. What waits for it may run here, so the caller has no lock."""
-        self._answers[part.number] = answers
-        self._receipts[part.number] = receipt
-        if len(self._receipts) == len(self.parts):
-            self.keeps = None
-            # The patience may be over just now.
-            with suppress(InvalidStateError):
-                self.set_result(tuple([answer for some in self._answers for answer in some]))
+    def settle(self, why: str = "", cause: Exception | None = None) -> bool:
+        """Ends it as its calls are, if these are over: whether it has no answer now, as nobody knows. What waits for it may run here, so the caller has no lock."""
+        states = {part.state for part in self.parts}
+        if State.CANCELLED in states:
+            self._was_cancelled()
+            return False
+        if not states.isdisjoint(WAITS):
+            return False
+        self.keeps = None
+        # It was ended by another thread, where both have found it over.
+        with suppress(InvalidStateError):
+            if states != ANSWERED:
+                self.set_exception(self._not_known(why, cause))
+                return True
+            self.set_result(tuple([answer for part in self.parts for answer in part.answers]))
+        return False
 
-    def fail(self, why: str, cause: Exception | None = None) -> None:
-        """Has it wait no more. The caller has no lock, and has seen to it that nothing more of it is sent."""
+    def _was_cancelled(self) -> None:
+        """Says so to who waits, also where an interrupt came before its own `cancel` has said it."""
+        super().cancel()
+        self.keeps = None
+        with self._condition:
+            if self._state == "CANCELLED":
+                self.set_running_or_notify_cancel()
+
+    def _not_known(self, why: str, cause: Exception | None) -> NotKnown:
         told = "the calls were made, or were not, or will be made yet" if self.sent else "the calls were not made"
         fault = NotKnown(f"{why}: {told}", self.sent)
         fault.__cause__ = cause
-        self.keeps = None
-        with suppress(InvalidStateError):
-            self.set_exception(fault)
+        return fault
 
     def _wait(self, timeout: float | None) -> None:
         """Waits until it is over."""
@@ -152,3 +178,8 @@ def split_lines(lines: Sequence[bytes]) -> list[list[bytes]]:
 def deadline_behind(patience: float) -> float:
     """When the patience is over that begins now."""
     return time.monotonic() + patience
+
+
+def ticks_of(time: float) -> int:
+    """A time by the clock of the machine."""
+    return int(time * TICKS)
