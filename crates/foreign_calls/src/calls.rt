@@ -62,14 +62,15 @@ pub fn call_by_operation(
 }
 
 /// Makes the call that the numbers say for worker 0, and tells its reply. It is not inlined, so that a table without a
-/// history does not save the registers that a history needs.
+/// history does not save the registers that a history needs. Its one way serves all operations: a second copy of each
+/// would be too much for the compiler to inline the first.
 #[inline(never)]
 fn kept_of_worker_0(kept: &mut Kept, said: &CallNumbers, reply: &mut ReplyNumbers) -> u32
     ensures { (place : ℕ) × MakesSaid (Recorded kept.old) 0 (call_of said.now) reply.old reply.new 0 place
         result (Recorded kept.new) }
 {
     let mut place = 0;
-    kept_by_operation(kept, 0, said, reply, &mut place)
+    said_any_kept(kept, 0, read_call(said), reply, &mut place)
 }
 
 /// Makes the call that the numbers say for worker 0, and tells its reply.
