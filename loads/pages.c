@@ -23,7 +23,7 @@ static uint64_t ids[MOST];
 static bool fork_children(long live, bool in_spaces)
 {
 	for (; live > 0; live--)
-		if (pidtab_fork(&plain, 1, in_spaces, NULL) <= 0)
+		if (pidtab_fork(&table, 1, in_spaces, NULL) <= 0)
 			return false;
 	return true;
 }
@@ -51,17 +51,17 @@ static uint64_t ask_once(const char *list)
 	uint64_t count = 0;
 
 	if (is_word(list, "inside"))
-		return pidtab_inside(&plain, PIDTAB_SPACES, 0, 0, ids, MOST, &count) == PIDTAB_DONE ? count : 0;
+		return pidtab_inside(&table, PIDTAB_SPACES, 0, 0, ids, MOST, &count) == PIDTAB_DONE ? count : 0;
 	if (is_word(list, "control"))
-		return pidtab_control_tasks(&plain, 1, 0, 0, numbers, MOST + 1, &reply) == PIDTAB_DONE ? reply.first : 0;
-	return pidtab_page(&plain, 1, whom_of(list), 0, 0, numbers, MOST + 1, &reply) == PIDTAB_DONE ? reply.first : 0;
+		return pidtab_control_tasks(&table, 1, 0, 0, numbers, MOST + 1, &reply) == PIDTAB_DONE ? reply.first : 0;
+	return pidtab_page(&table, 1, whom_of(list), 0, 0, numbers, MOST + 1, &reply) == PIDTAB_DONE ? reply.first : 0;
 }
 
 int main(int count, char **words)
 {
 	const long live = count == 4 ? atol(words[2]) : 0;
 
-	if (live < 1 || live > MOST || !is_list(words[1]) || pidtab_open(&plain, 32768) != PIDTAB_DONE || !fork_children(live, is_word(words[1], "inside"))) {
+	if (live < 1 || live > MOST || !is_list(words[1]) || pidtab_open(&table, 32768) != PIDTAB_DONE || !fork_children(live, is_word(words[1], "inside"))) {
 		fprintf(stderr, "pages children|group|session|space|inside|control LIVE N, with LIVE from 1 to %d\n", MOST);
 		return 2;
 	}
