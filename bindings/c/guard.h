@@ -99,7 +99,7 @@ static inline uint32_t end_change(struct pidtab *table, const struct pidtab *hel
 	return status;
 }
 
-/* Keeps the bound, and ends one call, or any number of calls. */
+/* Keeps the bound, and ends one call, or any number of calls. A call that was not made has left none too many, so nothing is cut. */
 static inline uint32_t end_call(struct pidtab *table, struct pidtab *held, uint32_t status)
 {
 	if (held->keep != 0)

@@ -48,7 +48,7 @@ static uint32_t open_as(struct pidtab *table, const struct pidtab_settings *sett
 	if (!enter(&table->in_use))
 		return PIDTAB_BUSY;
 	copy_held(table, &held);
-	return opened(table, &held, settings, proved_open_with(&held, settings));
+	return opened(table, &held, settings, has_threads(table) ? PIDTAB_BUSY : proved_open_with(&held, settings));
 }
 
 uint32_t pidtab_open(struct pidtab *table, uint32_t pid_max)
@@ -90,7 +90,7 @@ uint32_t pidtab_load_with(struct pidtab *table, const void *text, size_t length,
 	if (!enter(&table->in_use))
 		return PIDTAB_BUSY;
 	copy_held(table, &held);
-	return opened(table, &held, &filled, load_held(&held, text, length, &filled, counts, fault));
+	return opened(table, &held, &filled, has_threads(table) ? PIDTAB_BUSY : load_held(&held, text, length, &filled, counts, fault));
 }
 
 /* Leaves zeroes, but the mark. */
