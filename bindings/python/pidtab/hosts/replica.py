@@ -95,7 +95,7 @@ class Replica:
         self.heard_at, self.snapshot_at = time.monotonic(), 0.0
         self.labels = Labels()
         self.feeds: Sequence[Changes] = ()
-        # The position up to which the log was read; entries behind it may be applied already.
+        # The position up to which the log was read; entries after it may be applied already.
         self.seen = 0
         # Why the table is not that of the log any more; None where it is.
         self.lost: Exception | None = None
@@ -106,7 +106,14 @@ class Replica:
         self.table_lock = threading.Lock()
         # Its sums, if this host checks snapshots.
         self.checker = Checker() if checks else None
-        self.machine = open_machine(open_table, self.settings)
+        self._open_machine(checks)
+        # The last entry that was applied, and the digest after it. While the log is replayed it stays.
+        self.place = (0, "")
+        self.crew = hire(self)
+
+    def _open_machine(self, checks: bool) -> None:
+        """Opens the table, and what is said of its calls. A fault closes the table again."""
+        self.machine = open_machine(self.open_table, self.settings)
         try:
             self.calls = OwnCalls(library_of(self.machine.table), self.changed)
             if checks:
@@ -115,9 +122,6 @@ class Replica:
         except BaseException:
             self.machine.table.close()
             raise
-        # The last entry that was applied, and the digest behind it. While the log is replayed it stays.
-        self.place = (0, "")
-        self.crew = hire(self)
 
     @property
     def threads(self) -> Sequence[threading.Thread]:
