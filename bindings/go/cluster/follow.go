@@ -1,8 +1,8 @@
 package cluster
 
 import (
+	"bytes"
 	"fmt"
-	"sort"
 	"time"
 
 	"pidtab"
@@ -82,11 +82,10 @@ func (it *replica) takeSnapshot(progress Progress) error {
 	if position <= it.applied {
 		return LogFault{Why: fmt.Sprintf("the log has given the snapshot of entry %d behind entry %d", position, it.applied)}
 	}
-	err := it.advance(position, func() error { return it.machine.load(position, progress.Snapshot) })
-	if err == nil {
-		it.skip(position)
+	if err := it.advance(position, func() error { return it.machine.load(position, progress.Snapshot) }); err != nil {
+		return err
 	}
-	return err
+	return it.skip(position)
 }
 
 // takeEntry applies an entry, and answers it if it is this host's.
@@ -99,7 +98,7 @@ func (it *replica) takeEntry(entry Entry) error {
 	if err != nil {
 		return err
 	}
-	return it.settle(applied)
+	return it.settle(applied, entry.Data)
 }
 
 // advance has the table go on to a position.
@@ -146,102 +145,30 @@ func (it *replica) noteAt(position uint64) error {
 }
 
 // settle answers an entry that is this host's.
-func (it *replica) settle(applied pidtab.Applied) error {
-	batch, err := it.settled(applied)
-	if batch == nil || err != nil {
-		return err
-	}
-	answers, err := it.machine.Answers()
-	if err != nil {
-		return err
-	}
-	if len(answers) != batch.count() {
-		return fmt.Errorf("pidtab: the library has answered %d of %d lines", len(answers), batch.count())
-	}
-	it.answer(batch, answers)
-	return nil
-}
-
-// settled is what was sent as the entry and is made now; nil where that is nothing of this host.
-func (it *replica) settled(applied pidtab.Applied) (*batch, error) {
+func (it *replica) settle(applied pidtab.Applied, entry []byte) error {
 	it.mu.Lock()
 	defer it.mu.Unlock()
-	isOwn := applied.Session == it.session && it.session != 0
-	switch {
-	case applied.Outcome == pidtab.EntryGap && isOwn:
-		why := fmt.Sprintf("the log has lost an entry of session %d before number %d", applied.Session, applied.Sequence)
-		return nil, LogFault{Why: why}
-	case applied.Outcome == pidtab.EntryGone && isOwn:
-		it.renew()
-	case applied.Outcome == pidtab.EntryMade:
-		key := sent{applied.Session, applied.Sequence}
-		found := it.pending[key]
-		delete(it.pending, key)
-		return found, nil
+	defer it.wake()
+	var answers []string
+	if applied.Outcome == pidtab.EntryMade && applied.Session == it.calls.host.Session() {
+		var err error
+		if answers, err = it.machine.Answers(); err != nil {
+			return err
+		}
+		if count := bytes.Count(entry, []byte("\n")); count != len(answers) {
+			return fmt.Errorf("pidtab: the library has answered %d of %d lines", len(answers), count)
+		}
 	}
-	return nil, nil
+	return it.calls.read(applied, answers)
 }
 
-// answer hands the answers of an entry to those who wait for them.
-func (it *replica) answer(batch *batch, answers []string) {
+// skip tells what may be among the entries in whose place a snapshot has come.
+func (it *replica) skip(position uint64) error {
 	it.mu.Lock()
 	defer it.mu.Unlock()
-	at := 0
-	for _, part := range batch.parts {
-		count := len(part.lines)
-		part.of.answer(part, Receipt{batch.session, batch.sequence, at, count}, answers[at:at+count:at+count])
-		at += count
-	}
-	it.wake()
-}
-
-// renew gives up a session that the log has ended: what was sent in it and not made there never will be, so it is sent in a new one. The lock is held.
-func (it *replica) renew() {
-	var parts []*part
-	for _, batch := range it.inOrder() {
-		for _, part := range batch.parts {
-			if !part.of.isOver {
-				parts = append(parts, part)
-			}
-		}
-	}
-	it.queue, it.pending, it.session = append(parts, it.queue...), map[sent]*batch{}, 0
-	it.wake()
-}
-
-// inOrder are the entries that have no answer, in the order in which they were sent.
-func (it *replica) inOrder() []*batch {
-	all := make([]*batch, 0, len(it.pending))
-	for _, batch := range it.pending {
-		all = append(all, batch)
-	}
-	sort.Slice(all, func(i, j int) bool { return all[i].sequence < all[j].sequence })
-	return all
-}
-
-// skip is for a snapshot that has come in the place of entries: what of this host's may be among them has no answer, and is never sent again.
-func (it *replica) skip(position uint64) {
-	it.mu.Lock()
-	defer it.mu.Unlock()
-	if it.session == 0 || it.session > position {
-		return
-	}
-	last, err := it.machine.Last(it.session)
-	isOpen := err == nil
-	for key, batch := range it.pending {
-		if isOpen && key.sequence > last {
-			continue
-		}
-		delete(it.pending, key)
-		for _, part := range batch.parts {
-			// What was not sent goes on: its numbers are those behind the last one.
-			part.of.fail("the log was cut before this host had read it", nil)
-		}
-	}
-	if !isOpen {
-		it.session = 0
-	}
-	it.wake()
+	defer it.wake()
+	last, err := it.machine.Last(it.calls.host.Session())
+	return it.calls.load(position, err == nil, last)
 }
 
 // lose counts how often the table was lost without a gain, and stops behind a bound.

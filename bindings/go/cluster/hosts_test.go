@@ -225,7 +225,7 @@ func untilSent(t *testing.T, submitted *Submitted) {
 	until(t, "calls that are sent", func() bool {
 		submitted.by.mu.Lock()
 		defer submitted.by.mu.Unlock()
-		return submitted.isSent
+		return submitted.parts[0].IsSent()
 	})
 }
 

@@ -108,7 +108,7 @@ func TestWhatIsNotSentGoes(t *testing.T) {
 		isNotKnown(t, err, false, "")
 	}
 	table.own.replica.mu.Lock()
-	left := len(table.own.replica.queue) + len(table.own.replica.waiting)
+	left := len(table.own.replica.calls.live)
 	table.own.replica.mu.Unlock()
 	equal(t, left, 0)
 	log.turn(true)

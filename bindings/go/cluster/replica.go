@@ -52,16 +52,9 @@ type replica struct {
 	replays  int
 	failedAt uint64
 
-	// What this host sends.
-	queue    []*part
-	pending  map[sent]*batch // what was sent and has no answer
-	waiting  map[*Submitted]struct{}
-	session  uint64 // 0 where none is open
-	sequence uint64
+	calls *ownCalls // what this host sends
+	begun time.Time // of the clock for their deadlines
 }
-
-// sent is the number of an entry of calls, and its session.
-type sent struct{ session, sequence uint64 }
 
 // newReplica has a table, and has not begun.
 func newReplica(log Log, options Options) (*replica, error) {
@@ -76,8 +69,8 @@ func newReplica(log Log, options Options) (*replica, error) {
 		open:     options.open,
 		ended:    make(chan struct{}),
 		machine:  machine,
-		pending:  map[sent]*batch{},
-		waiting:  map[*Submitted]struct{}{},
+		calls:    newOwnCalls(),
+		begun:    time.Now(),
 	}
 	it.life, it.kill = context.WithCancel(context.Background())
 	it.hurried, it.hurry = context.WithCancel(context.Background())
@@ -126,7 +119,9 @@ func (it *replica) begin(ctx context.Context) error {
 // notOpened is what an error is at the opening.
 func (it *replica) notOpened(err error) error {
 	if late, isLate := err.(NotKnown); isLate {
-		return LogFault{Why: "the log was not opened: " + late.Why, Err: it.lastTrouble()}
+		it.mu.Lock()
+		defer it.mu.Unlock()
+		return LogFault{Why: "the log was not opened: " + late.Why, Err: it.trouble}
 	}
 	return err
 }
@@ -153,31 +148,24 @@ func (it *replica) submit(submitted *Submitted) error {
 	if err := it.refusal(); err != nil {
 		return err
 	}
-	if submitted.left == 0 {
+	if len(submitted.parts) == 0 {
 		submitted.finish(nil)
 		return nil
 	}
-	it.waiting[submitted] = struct{}{}
-	it.queue = append(it.queue, submitted.parts...)
+	it.calls.add(submitted, it.clock()+uint64(it.patience))
 	submitted.timer = time.AfterFunc(it.patience, func() { it.expire(submitted) })
 	it.wake()
 	return nil
 }
 
+// clock is the time of the deadlines, in nanoseconds.
+func (it *replica) clock() uint64 { return uint64(time.Since(it.begun)) }
+
 // expire fails what waits longer than the patience.
 func (it *replica) expire(submitted *Submitted) {
 	it.mu.Lock()
 	defer it.mu.Unlock()
-	submitted.fail(it.whyLate(), nil)
-}
-
-// forget has nobody wait for an answer any more. What is not sent goes out of the queue, of which the front is the oldest. The lock is held.
-func (it *replica) forget(submitted *Submitted) {
-	delete(it.waiting, submitted)
-	for len(it.queue) > 0 && it.queue[0].of.isOver {
-		it.queue[0] = nil
-		it.queue = it.queue[1:]
-	}
+	it.calls.expire(submitted, it.clock(), it.whyLate())
 	it.wake()
 }
 
@@ -272,10 +260,8 @@ type progress struct {
 
 // waitUntil waits for what the follower brings, as long as it goes on within the patience. The lock is held where it looks.
 func (it *replica) waitUntil(ctx context.Context, holds func() bool) error {
-	timer := time.NewTimer(it.patience)
-	defer timer.Stop()
 	var before progress
-	for {
+	for late := time.Now().Add(it.patience); ; {
 		it.mu.Lock()
 		now, isThere, refusal, changed := progress{it.seen, it.applied, it.replays}, holds(), it.refusal(), it.changes()
 		it.mu.Unlock()
@@ -283,28 +269,19 @@ func (it *replica) waitUntil(ctx context.Context, holds func() bool) error {
 			return refusal
 		}
 		if now != before {
-			before = now
-			restart(timer, it.patience)
+			before, late = now, time.Now().Add(it.patience)
 		}
+		timer := time.NewTimer(time.Until(late))
 		select {
 		case <-changed:
+			timer.Stop()
 		case <-timer.C:
 			return it.over()
 		case <-ctx.Done():
+			timer.Stop()
 			return ctx.Err()
 		}
 	}
-}
-
-// restart begins the time of a timer anew.
-func restart(timer *time.Timer, long time.Duration) {
-	if !timer.Stop() {
-		select {
-		case <-timer.C:
-		default:
-		}
-	}
-	timer.Reset(long)
 }
 
 // changes is closed by the next change. The lock is held.
@@ -363,13 +340,6 @@ func (it *replica) note(trouble error) {
 	it.trouble = trouble
 }
 
-// lastTrouble is what the log last could not do.
-func (it *replica) lastTrouble() error {
-	it.mu.Lock()
-	defer it.mu.Unlock()
-	return it.trouble
-}
-
 // over is what is answered when the patience is over for what makes no call.
 func (it *replica) over() error {
 	it.mu.Lock()
@@ -392,10 +362,7 @@ func (it *replica) stop(fault error, why string) {
 	if !it.stopped {
 		it.stopped, it.fault = true, fault
 	}
-	for submitted := range it.waiting {
-		submitted.fail(why, fault)
-	}
-	it.queue, it.pending = nil, map[sent]*batch{}
+	it.calls.stop(why, fault)
 	it.wake()
 	it.kill()
 }
@@ -431,25 +398,24 @@ func (it *replica) finish() {
 	it.mu.Unlock()
 	if it.waitForAnswers() {
 		// It ends the session, by one try.
-		it.waitFor(it.appended)
+		waitFor(it.appended, it.hurried.Done())
 	}
 	it.stop(nil, "the table was closed")
 	it.hurry()
-	for _, worker := range []chan struct{}{it.followed, it.appended} {
-		waitLast(worker)
-	}
+	waitFor(it.followed, nil)
+	waitFor(it.appended, nil)
 	it.tableLock.Lock()
 	defer it.tableLock.Unlock()
 	it.machine.close()
 }
 
-// waitForAnswers waits within the patience until nobody waits for an answer: whether nothing that was sent is left without one.
+// waitForAnswers waits within the patience until nobody waits for an answer: whether nothing is left to put then.
 func (it *replica) waitForAnswers() bool {
 	patience := time.NewTimer(it.patience)
 	defer patience.Stop()
 	for {
 		it.mu.Lock()
-		isOver, isIdle := it.stopped || len(it.waiting) == 0, !it.stopped && len(it.queue)+len(it.pending) == 0
+		isOver, isIdle := it.stopped || it.calls.isOver(), !it.stopped && it.calls.isIdle()
 		changed := it.changes()
 		it.mu.Unlock()
 		if isOver {
@@ -465,35 +431,16 @@ func (it *replica) waitForAnswers() bool {
 	}
 }
 
-// waitFor waits for the end of a goroutine, if it has begun, unless that is hurried.
-func (it *replica) waitFor(worker chan struct{}) {
+// waitFor waits for the end of a goroutine, if it has begun, which a log may hold up: for a while, and unless that is hurried.
+func waitFor(worker, hurried <-chan struct{}) {
 	if worker == nil {
 		return
 	}
+	timer := time.NewTimer(lastWait)
+	defer timer.Stop()
 	select {
-	case <-it.hurried.Done():
-	case <-afterLast(worker):
+	case <-worker:
+	case <-timer.C:
+	case <-hurried:
 	}
-}
-
-// waitLast waits for the end of a goroutine, if it has begun, which a log may hold up.
-func waitLast(worker chan struct{}) {
-	if worker != nil {
-		<-afterLast(worker)
-	}
-}
-
-// afterLast is closed once a goroutine has ended, or has had its time.
-func afterLast(worker chan struct{}) <-chan struct{} {
-	over := make(chan struct{})
-	go func() {
-		defer close(over)
-		timer := time.NewTimer(lastWait)
-		defer timer.Stop()
-		select {
-		case <-worker:
-		case <-timer.C:
-		}
-	}()
-	return over
 }

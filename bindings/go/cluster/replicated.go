@@ -1,8 +1,8 @@
 // Package cluster has one table of package pidtab on many hosts, by a log that they share: each host has the whole table in its own process, and makes
 // the calls of the log in their order. docs/CLUSTER.md has its promises; hosts in Python and in Go may share a log.
 //
-// What an entry of the log makes of a host is done by the library, and proved. This package is not: it puts entries into the log, reads them,
-// and hands each answer to who has asked.
+// What an entry of the log makes of a host, and what a host does with a call, the library says, and that is proved. This package is not: it puts entries
+// into the log, reads them, watches the time, and hands each answer to who has asked.
 package cluster
 
 import (
@@ -194,7 +194,7 @@ func (own *handle) answers(ctx context.Context, lines []string) ([]string, error
 		return nil, pidtab.ErrNil
 	}
 	if err := ctx.Err(); err != nil {
-		return nil, endedBy(err, false)
+		return nil, NotKnown{Why: whyEnded(err), Err: err}
 	}
 	submitted, err := own.submit(lines)
 	if err != nil {

@@ -14,42 +14,43 @@ type Receipt struct {
 	Place, Count      int
 }
 
-// A part has lines of a Submit that go into one entry.
+// A part has lines of a Submit that go into one entry: a call of the machine.
 type part struct {
-	of     *Submitted
-	number int
-	lines  []string
-	size   int // bytes in an entry
+	pidtab.HostCall
+	of      *Submitted
+	lines   []string
+	size    uint64   // bytes in an entry
+	answers []string // once it is answered
+}
+
+// call is what the machine has of it: nil of one that is over.
+func (it *part) call() *pidtab.HostCall {
+	if it == nil {
+		return nil
+	}
+	return &it.HostCall
 }
 
 // Submitted are calls that were submitted to a table on many hosts, and their answers once they are there. It waits on its own at most as long as the
 // patience of the table. Goroutines may share it.
 type Submitted struct {
 	by    *replica
-	parts []*part
+	parts []*part       // whose calls the lock of the replica guards until it is over
 	done  chan struct{} // is closed once it is over
 	timer *time.Timer   // of the patience
-
-	// What the lock of the replica guards until it is over; then it stays.
-	isSent   bool // some of it may be in the log
-	isOver   bool
-	left     int // parts that have no answer
-	answers  [][]string
-	receipts []Receipt
-	fault    error
+	fault error         // why it has no answers, once it is over
 }
 
 // newSubmitted are lines that nobody has sent.
 func newSubmitted(by *replica, lines []string) *Submitted {
 	it := &Submitted{by: by, done: make(chan struct{})}
-	for number, some := range splitLines(lines) {
+	for _, some := range splitLines(lines) {
 		size := len(some)
 		for _, line := range some {
 			size += len(line)
 		}
-		it.parts = append(it.parts, &part{it, number, some, size})
+		it.parts = append(it.parts, &part{of: it, lines: some, size: uint64(size)})
 	}
-	it.left, it.answers, it.receipts = len(it.parts), make([][]string, len(it.parts)), make([]Receipt, len(it.parts))
 	return it
 }
 
@@ -67,15 +68,13 @@ func (it *Submitted) Wait(ctx context.Context) ([]string, error) {
 	}
 	select {
 	case <-it.done:
-		return it.result()
-	default:
-	}
-	select {
-	case <-it.done:
-		return it.result()
 	case <-ctx.Done():
-		return nil, ctx.Err()
+		// What is there is not taken away.
+		if !it.isOver() {
+			return nil, ctx.Err()
+		}
 	}
+	return it.result()
 }
 
 // Cancel has the calls not made, if nothing of them was sent: whether that went well. Then Wait answers a NotKnown that wraps context.Canceled.
@@ -85,24 +84,31 @@ func (it *Submitted) Cancel() bool {
 	}
 	it.by.mu.Lock()
 	defer it.by.mu.Unlock()
-	if it.isSent || it.isOver {
-		return false
-	}
-	it.fail("the calls were cancelled", context.Canceled)
-	return true
+	defer it.by.wake()
+	return it.by.calls.cancel(it)
 }
 
 // Receipts are where the calls are in the log, by the entries in which they are; nil where they have no answers yet.
 func (it *Submitted) Receipts() []Receipt {
+	if !it.isOver() || it.fault != nil {
+		return nil
+	}
+	receipts := make([]Receipt, len(it.parts))
+	for number, part := range it.parts {
+		session, sequence, place := part.Entry()
+		receipts[number] = Receipt{session, sequence, int(place), len(part.lines)}
+	}
+	return receipts
+}
+
+// isOver is whether there are answers, or there never will be.
+func (it *Submitted) isOver() bool {
 	select {
 	case <-it.done:
+		return true
 	default:
-		return nil
+		return false
 	}
-	if it.fault != nil {
-		return nil
-	}
-	return it.receipts
 }
 
 // result is what it is answered, once it is over.
@@ -110,12 +116,12 @@ func (it *Submitted) result() ([]string, error) {
 	if it.fault != nil {
 		return nil, it.fault
 	}
-	if len(it.answers) == 1 {
-		return it.answers[0], nil
+	if len(it.parts) == 1 {
+		return it.parts[0].answers, nil
 	}
 	var all []string
-	for _, some := range it.answers {
-		all = append(all, some...)
+	for _, part := range it.parts {
+		all = append(all, part.answers...)
 	}
 	return all, nil
 }
@@ -125,55 +131,22 @@ func (it *Submitted) waitOrLeave(ctx context.Context) ([]string, error) {
 	select {
 	case <-it.done:
 	case <-ctx.Done():
-		it.leave(ctx.Err())
+		it.by.mu.Lock()
+		it.by.calls.fail(it, whyEnded(ctx.Err()), ctx.Err())
+		it.by.wake()
+		it.by.mu.Unlock()
 	}
 	return it.result()
 }
 
-// leave has nobody wait for the answers any more, if they are not there.
-func (it *Submitted) leave(why error) {
-	it.by.mu.Lock()
-	defer it.by.mu.Unlock()
-	if !it.isOver {
-		it.finish(endedBy(why, it.isSent))
-	}
-}
+// whyEnded is why a wait has ended whose context is done, in words.
+func whyEnded(err error) string { return "the wait was ended, " + err.Error() }
 
-// endedBy is what a wait answers whose context is done.
-func endedBy(why error, isSent bool) error {
-	return NotKnown{Why: "the wait was ended, " + why.Error(), Sent: isSent, Err: why}
-}
-
-// send says that some of it may be in the log from now on; false where it is over. The lock is held.
-func (it *Submitted) send() bool {
-	it.isSent = it.isSent || !it.isOver
-	return !it.isOver
-}
-
-// answer takes the answers to one part. The lock is held.
-func (it *Submitted) answer(part *part, receipt Receipt, answers []string) {
-	if it.isOver {
-		return
-	}
-	it.answers[part.number], it.receipts[part.number] = answers, receipt
-	it.left--
-	if it.left == 0 {
-		it.finish(nil)
-	}
-}
-
-// fail has it wait no more. Nothing more of it is sent. The lock is held.
-func (it *Submitted) fail(why string, cause error) {
-	if !it.isOver {
-		it.finish(NotKnown{Why: why, Sent: it.isSent, Err: cause})
-	}
-}
-
+// finish ends it. The lock is held.
 func (it *Submitted) finish(fault error) {
-	it.isOver, it.fault = true, fault
+	it.fault = fault
 	if it.timer != nil {
 		it.timer.Stop()
 	}
-	it.by.forget(it)
 	close(it.done)
 }
