@@ -35,30 +35,6 @@ type HostPutStep struct {
 	First, Second uint64
 }
 
-// HostTaken is what became of a call that had its turn.
-type HostTaken uint32
-
-// What became of a call that had its turn.
-const (
-	HostTakenRefused HostTaken = C.HOST_TAKEN_REFUSED // it is not its turn
-	HostTakenPasses  HostTaken = C.HOST_TAKEN_PASSES  // it was over, and no entry has it
-	HostTakenBegins  HostTaken = C.HOST_TAKEN_BEGINS  // it begins a new entry
-	HostTakenJoins   HostTaken = C.HOST_TAKEN_JOINS   // it is in the entry that is made up, after the others
-	HostTakenFills   HostTaken = C.HOST_TAKEN_FILLS   // it does not fit in: the entry is sealed next
-)
-
-// HostReading is what follows from what was read.
-type HostReading uint32
-
-// What follows from what was read.
-const (
-	HostReadingBusy    HostReading = C.HOST_READING_BUSY    // nothing was read: calls are to be told first
-	HostReadingIgnores HostReading = C.HOST_READING_IGNORES // nothing
-	HostReadingTells   HostReading = C.HOST_READING_TELLS   // calls are to be told
-	HostReadingRenews  HostReading = C.HOST_READING_RENEWS  // the session has ended: what was not made in it is put in a new one
-	HostReadingMisses  HostReading = C.HOST_READING_MISSES  // the log lacks an entry of this session, or has one that this host has not put
-)
-
 // HostTold is what a call is told.
 type HostTold uint32
 
@@ -101,9 +77,11 @@ func (host *HostCalls) Opened(session uint64) bool {
 	return bool(C.host_calls_opened(&host.raw, C.uint64_t(session)))
 }
 
-// Take gives the call that has its turn to the entry that is made up. nil stands for one that is over. The entry has the lines of those that begin it or join.
-func (host *HostCalls) Take(call *HostCall) HostTaken {
-	return HostTaken(C.host_calls_take(&host.raw, host.orOver(call, host.raw.taken)))
+// Take gives the call that has its turn to the entry that is made up: whether the entry has its lines. Else it was over, or does not fit in, and begins the
+// next entry, or it is not its turn. nil is one that is over.
+func (host *HostCalls) Take(call *HostCall) bool {
+	taken := C.host_calls_take(&host.raw, host.orOver(call, host.raw.taken))
+	return taken == C.HOST_TAKEN_BEGINS || taken == C.HOST_TAKEN_JOINS
 }
 
 // Seal has the entry put that is made up, from now on always the same. False where none is.
@@ -114,24 +92,31 @@ func (host *HostCalls) Acknowledge(session, sequence uint64) bool {
 	return bool(C.host_calls_acknowledge(&host.raw, C.uint64_t(session), C.uint64_t(sequence)))
 }
 
-// Read says what the log has made of an entry of calls that was read.
-func (host *HostCalls) Read(applied Applied) HostReading {
+// Read says what the log has made of an entry that was read. False where the log lacks an entry of this host's session, or where calls are to be told
+// first, and nothing was read.
+func (host *HostCalls) Read(applied Applied) bool {
 	if applied.Outcome == EntryNoted {
-		return HostReadingIgnores
+		return true
 	}
 	outcome := C.uint32_t(applied.Outcome - EntryMade)
-	return HostReading(C.host_calls_read(&host.raw, outcome, C.uint64_t(applied.Session), C.uint64_t(applied.Sequence)))
+	return isGood(C.host_calls_read(&host.raw, outcome, C.uint64_t(applied.Session), C.uint64_t(applied.Sequence)))
 }
 
-// Load says that a snapshot was loaded of all up to the position, in which the session of this host is open with this last number, or is not open.
-func (host *HostCalls) Load(position uint64, isOpen bool, last uint64) HostReading {
-	return HostReading(C.host_calls_load(&host.raw, C.uint64_t(position), C.bool(isOpen), C.uint64_t(last)))
+// Load says that a snapshot was loaded of all up to the position, in which the session of this host is open with this last number, or is not open. False
+// where this host has put no entry with the number, or where calls are to be told first, and nothing was loaded.
+func (host *HostCalls) Load(position uint64, isOpen bool, last uint64) bool {
+	return isGood(C.host_calls_load(&host.raw, C.uint64_t(position), C.bool(isOpen), C.uint64_t(last)))
+}
+
+// isGood is whether what was read can follow.
+func isGood(reading C.uint32_t) bool {
+	return reading != C.HOST_READING_MISSES && reading != C.HOST_READING_BUSY
 }
 
 // IsTelling is whether the call with the ticket ToTell is to be told. After each Read, Load and Stop: as long as this is so, Tell.
 func (host *HostCalls) IsTelling() bool { return bool(C.host_calls_is_telling(&host.raw)) }
 
-// Tell tells the call that is told next. nil stands for one that is over.
+// Tell tells the call that is told next. nil is one that is over.
 func (host *HostCalls) Tell(call *HostCall) HostTold {
 	return HostTold(C.host_calls_tell(&host.raw, host.orOver(call, host.raw.told)))
 }

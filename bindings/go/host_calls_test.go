@@ -41,7 +41,7 @@ func (it *world) open(session uint64) {
 	it.expect(it.NextPut().Kind == HostPutOpen, it.Opened(session), !it.Opened(session), it.Session() == session)
 }
 
-func (it *world) take() HostTaken {
+func (it *world) take() bool {
 	it.Helper()
 	step := it.NextPut()
 	it.expect(step.Kind == HostPutTake)
@@ -73,7 +73,7 @@ func putOne(t *testing.T) (*world, *HostCall) {
 	it.expect(it.NextPut().Kind == HostPutRest)
 	call := it.submit(1, 7)
 	it.open(theSession)
-	it.expect(it.take() == HostTakenBegins)
+	it.expect(it.take())
 	it.seal(theSession, 1)
 	return it, call
 }
@@ -85,25 +85,25 @@ func TestHostCallsThatAreAnswered(t *testing.T) {
 	it := beginWorld(t)
 	first, second := it.submit(2, 14), it.submit(1, 7)
 	it.open(theSession)
-	it.expect(it.take() == HostTakenBegins, it.take() == HostTakenJoins)
+	it.expect(it.take(), it.take())
 	it.seal(theSession, 1)
-	it.expect(it.Read(Applied{}) == HostReadingIgnores, it.Read(madeOf(theSession+1, 1)) == HostReadingIgnores)
-	it.expect(it.Read(madeOf(theSession, 1)) == HostReadingTells, it.Read(madeOf(theSession, 2)) == HostReadingBusy)
+	it.expect(it.Read(Applied{}), it.Read(madeOf(theSession+1, 1)))
+	it.expect(it.Read(madeOf(theSession, 1)), !it.Read(madeOf(theSession, 2)))
 	it.expect(it.tell() == HostToldAnswers, it.tell() == HostToldAnswers, !it.IsTelling())
 	it.expect(it.isAt(first, theSession, 1, 0), it.isAt(second, theSession, 1, 2), first.IsSent())
 	// The log's own answer comes after it was read.
-	it.expect(!it.Acknowledge(theSession, 1), it.Read(Applied{EntryRepeated, theSession, 1}) == HostReadingIgnores, it.NextPut().Kind == HostPutRest)
+	it.expect(!it.Acknowledge(theSession, 1), it.Read(Applied{EntryRepeated, theSession, 1}), it.NextPut().Kind == HostPutRest)
 }
 
 // The session has ended before the entry came: its call goes into a new one.
 func TestHostCallsOfASessionThatHasEnded(t *testing.T) {
 	it, call := putOne(t)
-	it.expect(it.Acknowledge(theSession, 1), it.NextPut().Kind == HostPutRest, it.Read(Applied{EntryGone, theSession, 1}) == HostReadingRenews)
+	it.expect(it.Acknowledge(theSession, 1), it.NextPut().Kind == HostPutRest, it.Read(Applied{EntryGone, theSession, 1}))
 	it.expect(call.IsSent(), !call.Cancel())
 	it.open(laterSession)
-	it.expect(it.take() == HostTakenBegins)
+	it.expect(it.take())
 	it.seal(laterSession, 1)
-	it.expect(it.Read(madeOf(laterSession, 1)) == HostReadingTells, it.tell() == HostToldAnswers, it.isAt(call, laterSession, 1, 0))
+	it.expect(it.Read(madeOf(laterSession, 1)), it.tell() == HostToldAnswers, it.isAt(call, laterSession, 1, 0))
 }
 
 // A call that no entry has can be cancelled, and none has it then: nil stands for it.
@@ -112,9 +112,9 @@ func TestHostCallsThatAreCancelled(t *testing.T) {
 	first, second := it.submit(1, 7), it.submit(1, 7)
 	it.expect(first.Cancel(), !first.Cancel(), !first.IsSent())
 	it.open(theSession)
-	it.expect(it.Take(second) == HostTakenRefused, it.Take(nil) == HostTakenPasses, it.take() == HostTakenBegins, !second.Cancel())
+	it.expect(!it.Take(second), !it.Take(nil), it.take(), !second.Cancel())
 	it.seal(theSession, 1)
-	it.expect(it.Read(madeOf(theSession, 1)) == HostReadingTells, it.Tell(second) == HostToldRefused)
+	it.expect(it.Read(madeOf(theSession, 1)), it.Tell(second) == HostToldRefused)
 	it.expect(it.Tell(nil) == HostToldPasses, it.tell() == HostToldAnswers, it.isAt(second, theSession, 1, 0))
 }
 
@@ -125,8 +125,8 @@ func TestHostCallsThatAreLate(t *testing.T) {
 	it.expect(!queued.Expire(theDeadline-1), queued.Expire(theDeadline), !queued.IsSent(), entered.Expire(theDeadline+1), entered.IsSent())
 	left.GiveUp()
 	it.expect(!left.IsSent(), !left.Cancel(), it.NextPut().Kind == HostPutEntry)
-	it.expect(it.Read(madeOf(theSession, 1)) == HostReadingTells, it.tell() == HostToldPasses)
-	it.expect(it.take() == HostTakenPasses, it.take() == HostTakenPasses, it.NextPut().Kind == HostPutRest)
+	it.expect(it.Read(madeOf(theSession, 1)), it.tell() == HostToldPasses)
+	it.expect(!it.take(), !it.take(), it.NextPut().Kind == HostPutRest)
 }
 
 // An entry has at most so many bytes, if it has several calls.
@@ -136,20 +136,20 @@ func TestHostCallsThatFillAnEntry(t *testing.T) {
 		it.submit(1, size)
 	}
 	it.open(theSession)
-	it.expect(it.take() == HostTakenBegins, it.take() == HostTakenJoins, it.take() == HostTakenFills)
+	it.expect(it.take(), it.take(), !it.take())
 	it.seal(theSession, 1)
-	it.expect(it.Acknowledge(theSession, 1), it.take() == HostTakenBegins)
+	it.expect(it.Acknowledge(theSession, 1), it.take())
 	it.seal(theSession, 2)
 }
 
 // A snapshot is where the entry was: nobody knows. One that the log cannot have is missed.
 func TestHostCallsBeforeASnapshot(t *testing.T) {
 	it, call := putOne(t)
-	it.expect(it.Load(theSession-1, true, 1) == HostReadingIgnores, it.Load(theSession+9, true, 2) == HostReadingMisses)
-	it.expect(it.Read(Applied{EntryGap, theSession, 3}) == HostReadingMisses, it.Load(theSession+9, true, 1) == HostReadingTells)
+	it.expect(it.Load(theSession-1, true, 1), !it.Load(theSession+9, true, 2))
+	it.expect(!it.Read(Applied{EntryGap, theSession, 3}), it.Load(theSession+9, true, 1))
 	it.expect(it.tell() == HostToldLoses, call.IsSent(), it.NextPut().Kind == HostPutRest)
 	it, _ = putOne(t)
-	it.expect(it.Load(theSession+9, false, 0) == HostReadingTells, it.tell() == HostToldLoses, it.Session() == 0)
+	it.expect(it.Load(theSession+9, false, 0), it.tell() == HostToldLoses, it.Session() == 0)
 }
 
 // Each call that is not over is told, and none is taken any more.

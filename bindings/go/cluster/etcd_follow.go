@@ -1,10 +1,10 @@
 package cluster
 
 import (
-	"container/heap"
 	"context"
 	"errors"
 	"fmt"
+	"sort"
 	"strings"
 	"time"
 
@@ -89,34 +89,16 @@ func (it *etcdWalk) hand(progress Progress) error {
 	return nil
 }
 
-// A found entry: its revision, its bytes, and the revision in its key.
-type found struct {
-	revision, hint int64
-	data           []byte
-}
-
-// A foundHeap has the entry with the least revision at its front.
-type foundHeap []found
-
-func (it foundHeap) Len() int           { return len(it) }
-func (it foundHeap) Less(i, j int) bool { return it[i].revision < it[j].revision }
-func (it foundHeap) Swap(i, j int)      { it[i], it[j] = it[j], it[i] }
-func (it *foundHeap) Push(x any)        { *it = append(*it, x.(found)) }
-func (it *foundHeap) Pop() any {
-	last := len(*it) - 1
-	popped := (*it)[last]
-	*it = (*it)[:last]
-	return popped
-}
+// found are entries in the order in which their keys were read.
+type found []Entry
 
 // upTo takes the entries up to a revision, in their order.
-func (it *foundHeap) upTo(revision int64) []Entry {
-	var ready []Entry
-	for it.Len() > 0 && (*it)[0].revision <= revision {
-		next := heap.Pop(it).(found)
-		ready = append(ready, Entry{uint64(next.revision), next.data})
-	}
-	return ready
+func (it *found) upTo(revision int64) []Entry {
+	all := *it
+	sort.Slice(all, func(i, j int) bool { return all[i].Position < all[j].Position })
+	count := sort.Search(len(all), func(i int) bool { return int64(all[i].Position) > revision })
+	*it = all[count:]
+	return all[:count:count]
 }
 
 // readKeys hands on all that is behind the place, as it is at one revision: a snapshot, where what was there is cut or much, and then all entries.
@@ -143,7 +125,7 @@ func (it *etcdWalk) readKeys(ctx context.Context) error {
 
 // readPages hands on the entries from a key on.
 func (it *etcdWalk) readPages(ctx context.Context, start string, at int64) error {
-	var waiting foundHeap
+	var waiting found
 	after := it.seen
 	for most := firstPage; ; {
 		page, err := it.page(ctx, start, at, most)
@@ -168,7 +150,7 @@ func (it *etcdWalk) readPages(ctx context.Context, start string, at int64) error
 }
 
 // push keeps the entries of a page that are behind the place, and none behind the revision; up to which all have come.
-func (it *etcdWalk) push(waiting *foundHeap, page page, after, at int64) (int64, error) {
+func (it *etcdWalk) push(waiting *found, page page, after, at int64) (int64, error) {
 	bound := after
 	for _, kv := range page.Kvs {
 		hint, isEntry, err := it.readKey(kv.Key, kv.CreateRevision, kv.Version)
@@ -179,7 +161,7 @@ func (it *etcdWalk) push(waiting *foundHeap, page page, after, at int64) (int64,
 			bound = hint
 		}
 		if isEntry && after < kv.CreateRevision && kv.CreateRevision <= at {
-			heap.Push(waiting, found{kv.CreateRevision, hint, kv.Value})
+			*waiting = append(*waiting, Entry{uint64(kv.CreateRevision), kv.Value})
 		}
 	}
 	return bound, nil

@@ -67,12 +67,11 @@ func (it *replica) take(progress Progress) error {
 			return err
 		}
 	}
-	it.mu.Lock()
-	defer it.mu.Unlock()
-	if it.seen < progress.Position {
-		it.seen = progress.Position
-	}
-	it.wake()
+	it.change(func() {
+		if it.seen < progress.Position {
+			it.seen = progress.Position
+		}
+	})
 	return nil
 }
 
@@ -111,18 +110,11 @@ func (it *replica) advance(position uint64, step func() error) error {
 	if err := step(); err != nil {
 		if isLoss(err) {
 			// Before anybody reads it.
-			it.setLost(err)
+			it.change(func() { it.lost = err })
 		}
 		return err
 	}
 	return it.noteAt(position)
-}
-
-// setLost says why the table is not that of the log any more. Its lock is held.
-func (it *replica) setLost(err error) {
-	it.mu.Lock()
-	defer it.mu.Unlock()
-	it.lost = err
 }
 
 // noteAt notes the digest behind an entry. Where the log is replayed, it has to be the one that was noted before.
@@ -174,21 +166,21 @@ func (it *replica) skip(position uint64) error {
 // lose counts how often the table was lost without a gain, and stops behind a bound.
 func (it *replica) lose(fault error) {
 	it.tableLock.Lock()
-	it.setLost(fault)
+	it.change(func() {
+		it.lost = fault
+		if it.replays++; it.applied > it.failedAt+gain {
+			it.replays = 1
+		}
+		if it.failedAt < it.applied {
+			it.failedAt = it.applied
+		}
+	})
 	it.tableLock.Unlock()
-	it.mu.Lock()
-	if it.replays++; it.applied > it.failedAt+gain {
-		it.replays = 1
+	// Nobody else changes these.
+	if it.replays > mostReplays {
+		it.stopBy(fmt.Errorf("pidtab: behind entry %d, after %d replays of the log: %w", it.failedAt, mostReplays, fault))
 	}
-	if it.failedAt < it.applied {
-		it.failedAt = it.applied
-	}
-	replays, failedAt := it.replays, it.failedAt
-	it.mu.Unlock()
-	if replays > mostReplays {
-		it.stopBy(fmt.Errorf("pidtab: behind entry %d, after %d replays of the log: %w", failedAt, mostReplays, fault))
-	}
-	sleep(it.life, time.Duration(replays)*replayPause)
+	sleep(it.life, time.Duration(it.replays)*replayPause)
 }
 
 // replay throws the table away, and begins anew from the log's first entry.
@@ -201,9 +193,6 @@ func (it *replica) replay() error {
 		return err
 	}
 	it.machine = anew
-	it.mu.Lock()
-	defer it.mu.Unlock()
-	it.lost, it.applied, it.seen = nil, 0, 0
-	it.wake()
+	it.change(func() { it.lost, it.applied, it.seen = nil, 0, 0 })
 	return nil
 }

@@ -104,7 +104,8 @@ func (it *machine) faultOf(err error, position uint64, entry []byte) error {
 	case errors.Is(err, pidtab.ErrOtherSettings):
 		return LogFault{Why: settingsFault(state, position, string(head)), Err: err}
 	case errors.Is(err, pidtab.ErrMissing):
-		return LogFault{Why: fmt.Sprintf("the writer of entry %d had an entry %d, which the log has no more", position, placeIn(head)), Err: err}
+		at, _, _ := writerAt(head)
+		return LogFault{Why: fmt.Sprintf("the writer of entry %d had an entry %d, which the log has no more", position, at), Err: err}
 	case errors.Is(err, pidtab.ErrDiverged):
 		return Diverged{Why: it.divergence(position, head)}
 	}
@@ -124,9 +125,8 @@ func settingsFault(state pidtab.LogState, position uint64, head string) string {
 
 // divergence says of which entry two hosts have other digests.
 func (it *machine) divergence(position uint64, head []byte) string {
-	var session, sequence, count, at uint64
-	var theirs string
-	if _, err := fmt.Sscanf(string(head), "calls %d %d %d %d %s", &session, &sequence, &count, &at, &theirs); err != nil {
+	at, theirs, isCalls := writerAt(head)
+	if !isCalls {
 		return fmt.Sprintf("the digest is not the one here in the snapshot that entry %d announces", position)
 	}
 	digest, err := it.Digest(at)
@@ -136,10 +136,9 @@ func (it *machine) divergence(position uint64, head []byte) string {
 	return fmt.Sprintf("behind entry %d the digest is %s here, and %s with the writer of entry %d", at, shorten(digest), theirs, position)
 }
 
-// placeIn is the position that the writer of calls had reached.
-func placeIn(head []byte) uint64 {
-	var session, sequence, count, at uint64
-	// What was read of another entry is 0.
-	_, _ = fmt.Sscanf(string(head), "calls %d %d %d %d", &session, &sequence, &count, &at)
-	return at
+// writerAt is the position that the writer of calls had reached, and its digest there; false of another entry.
+func writerAt(head []byte) (at uint64, digest string, isCalls bool) {
+	var session, sequence, count uint64
+	_, err := fmt.Sscanf(string(head), "calls %d %d %d %d %s", &session, &sequence, &count, &at, &digest)
+	return at, digest, err == nil
 }

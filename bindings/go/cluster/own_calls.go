@@ -68,8 +68,7 @@ func (it *ownCalls) sent(position uint64) {
 
 // take gives the part that has its turn to the entry that is made up.
 func (it *ownCalls) take(part *part) {
-	switch it.host.Take(part.call()) {
-	case pidtab.HostTakenBegins, pidtab.HostTakenJoins:
+	if it.host.Take(part.call()) {
 		it.parts = append(it.parts, part)
 	}
 }
@@ -87,7 +86,7 @@ func (it *ownCalls) seal(at place) {
 
 // read tells calls what the log has made of an entry, with the answers to all of its lines.
 func (it *ownCalls) read(applied pidtab.Applied, answers []string) error {
-	if it.host.Read(applied) == pidtab.HostReadingMisses {
+	if !it.host.Read(applied) {
 		return LogFault{Why: fmt.Sprintf("the log has lost an entry of session %d before number %d", applied.Session, applied.Sequence)}
 	}
 	it.tell(answers, "", nil)
@@ -96,7 +95,7 @@ func (it *ownCalls) read(applied pidtab.Applied, answers []string) error {
 
 // load tells the calls in whose place a snapshot has come that nobody knows: in it this host's session has the last number, or is not open.
 func (it *ownCalls) load(position uint64, isOpen bool, last uint64) error {
-	if it.host.Load(position, isOpen, last) == pidtab.HostReadingMisses {
+	if !it.host.Load(position, isOpen, last) {
 		const words = "the snapshot of entry %d has entry %d of session %d, which this host has not put"
 		return LogFault{Why: fmt.Sprintf(words, position, last, it.host.Session())}
 	}

@@ -3,6 +3,7 @@ package cluster
 import (
 	"context"
 	"fmt"
+	"runtime"
 	"sync"
 	"time"
 
@@ -26,8 +27,6 @@ type replica struct {
 
 	life     context.Context // until the replica stops
 	kill     context.CancelFunc
-	hurried  context.Context // until nothing is waited for any more
-	hurry    context.CancelFunc
 	ending   sync.Once
 	ended    chan struct{} // is closed once all has ended
 	followed chan struct{} // is closed once the follower has ended; nil before it begins
@@ -73,13 +72,12 @@ func newReplica(log Log, options Options) (*replica, error) {
 		begun:    time.Now(),
 	}
 	it.life, it.kill = context.WithCancel(context.Background())
-	it.hurried, it.hurry = context.WithCancel(context.Background())
 	return it, nil
 }
 
 // closedReplica is one of a table that nobody has opened.
 func closedReplica() *replica {
-	it := &replica{ended: make(chan struct{}), closing: true, stopped: true}
+	it := &replica{ended: make(chan struct{}), closing: true, stopped: true, kill: func() {}, calls: newOwnCalls()}
 	it.ending.Do(func() { close(it.ended) })
 	return it
 }
@@ -103,10 +101,7 @@ func (it *replica) start(ctx context.Context) error {
 // begin puts the settings into a log that is empty.
 func (it *replica) begin(ctx context.Context) error {
 	hasBegun := func() bool { return it.last.position > 0 }
-	it.mu.Lock()
-	begun := hasBegun()
-	it.mu.Unlock()
-	if begun {
+	if locked(it, hasBegun) {
 		return nil
 	}
 	settings := []byte(settingsEntry(it.pidMax))
@@ -119,19 +114,13 @@ func (it *replica) begin(ctx context.Context) error {
 // notOpened is what an error is at the opening.
 func (it *replica) notOpened(err error) error {
 	if late, isLate := err.(NotKnown); isLate {
-		it.mu.Lock()
-		defer it.mu.Unlock()
-		return LogFault{Why: "the log was not opened: " + late.Why, Err: it.trouble}
+		return LogFault{Why: "the log was not opened: " + late.Why, Err: locked(it, func() error { return it.trouble })}
 	}
 	return err
 }
 
 // check is why the replica takes no calls; nil where it does.
-func (it *replica) check() error {
-	it.mu.Lock()
-	defer it.mu.Unlock()
-	return it.refusal()
-}
+func (it *replica) check() error { return locked(it, it.refusal) }
 
 // refusal is the same. The lock is held.
 func (it *replica) refusal() error {
@@ -163,10 +152,7 @@ func (it *replica) clock() uint64 { return uint64(time.Since(it.begun)) }
 
 // expire fails what waits longer than the patience.
 func (it *replica) expire(submitted *Submitted) {
-	it.mu.Lock()
-	defer it.mu.Unlock()
-	it.calls.expire(submitted, it.clock(), it.whyLate())
-	it.wake()
+	it.change(func() { it.calls.expire(submitted, it.clock(), it.whyLate()) })
 }
 
 // read has a look at the table, which nobody changes meanwhile. Amid a replay it would be as it was before, so who reads waits for its end.
@@ -236,11 +222,7 @@ func (it *replica) reach(ctx context.Context, position uint64) error {
 }
 
 // placeNow is the last entry that was applied, and the digest behind it.
-func (it *replica) placeNow() place {
-	it.mu.Lock()
-	defer it.mu.Unlock()
-	return it.last
-}
+func (it *replica) placeNow() place { return locked(it, func() place { return it.last }) }
 
 // digestAt is the digest behind an entry.
 func (it *replica) digestAt(position uint64) (pidtab.LogDigest, error) {
@@ -282,6 +264,36 @@ func (it *replica) waitUntil(ctx context.Context, holds func() bool) error {
 			return ctx.Err()
 		}
 	}
+}
+
+// await waits until something holds. The lock is held where it looks.
+func (it *replica) await(holds func() bool) {
+	for {
+		it.mu.Lock()
+		isThere, changed := holds(), it.changes()
+		it.mu.Unlock()
+		if isThere {
+			return
+		}
+		<-changed
+		// Who is about to submit does so first, and is in the same entry.
+		runtime.Gosched()
+	}
+}
+
+// locked reads something under the lock.
+func locked[T any](it *replica, read func() T) T {
+	it.mu.Lock()
+	defer it.mu.Unlock()
+	return read()
+}
+
+// change changes something under the lock, and wakes all that wait for a change.
+func (it *replica) change(do func()) {
+	it.mu.Lock()
+	defer it.mu.Unlock()
+	defer it.wake()
+	do()
 }
 
 // changes is closed by the next change. The lock is held.
@@ -334,18 +346,10 @@ func (it *replica) insist(ctx context.Context, step func(context.Context) (uint6
 }
 
 // note keeps what the log could not do.
-func (it *replica) note(trouble error) {
-	it.mu.Lock()
-	defer it.mu.Unlock()
-	it.trouble = trouble
-}
+func (it *replica) note(trouble error) { it.change(func() { it.trouble = trouble }) }
 
 // over is what is answered when the patience is over for what makes no call.
-func (it *replica) over() error {
-	it.mu.Lock()
-	defer it.mu.Unlock()
-	return NotKnown{Why: it.whyLate()}
-}
+func (it *replica) over() error { return NotKnown{Why: locked(it, it.whyLate)} }
 
 // whyLate is why the patience is over, in words. The lock is held.
 func (it *replica) whyLate() string {
@@ -357,18 +361,20 @@ func (it *replica) whyLate() string {
 
 // stop ends the work, and fails all that waits. Where it has stopped before, that stays as it was.
 func (it *replica) stop(fault error, why string) {
-	it.mu.Lock()
-	defer it.mu.Unlock()
-	if !it.stopped {
-		it.stopped, it.fault = true, fault
-	}
-	it.calls.stop(why, fault)
-	it.wake()
+	it.change(func() {
+		if !it.stopped {
+			it.stopped, it.fault = true, fault
+		}
+		it.calls.stop(why, fault)
+	})
 	it.kill()
 }
 
 // stopBy stops for a fault of the log or of the table.
 func (it *replica) stopBy(fault error) { it.stop(fault, "the table has stopped, "+fault.Error()) }
+
+// close stops, for no fault.
+func (it *replica) close() { it.stop(nil, "the table was closed") }
 
 // shutdown waits within the patience until what was submitted is answered, and ends all. Where the context is done before, it waits no more.
 func (it *replica) shutdown(ctx context.Context) error {
@@ -377,31 +383,22 @@ func (it *replica) shutdown(ctx context.Context) error {
 	case <-it.ended:
 		return nil
 	case <-ctx.Done():
-		it.hurry()
+		it.close()
 		<-it.ended
 		return ctx.Err()
 	}
 }
 
-// abandon ends all at once.
-func (it *replica) abandon() {
-	it.hurry()
-	_ = it.shutdown(context.Background())
-}
-
-// finish ends all.
+// finish ends all, once nobody waits for an answer: the patience of each who does is over at last.
 func (it *replica) finish() {
 	defer close(it.ended)
-	it.mu.Lock()
-	it.closing = true
-	it.wake()
-	it.mu.Unlock()
-	if it.waitForAnswers() {
+	it.change(func() { it.closing = true })
+	it.await(func() bool { return it.stopped || it.calls.isOver() })
+	if locked(it, it.calls.isIdle) {
 		// It ends the session, by one try.
-		waitFor(it.appended, it.hurried.Done())
+		waitFor(it.appended, it.life.Done())
 	}
-	it.stop(nil, "the table was closed")
-	it.hurry()
+	it.close()
 	waitFor(it.followed, nil)
 	waitFor(it.appended, nil)
 	it.tableLock.Lock()
@@ -409,30 +406,8 @@ func (it *replica) finish() {
 	it.machine.close()
 }
 
-// waitForAnswers waits within the patience until nobody waits for an answer: whether nothing is left to put then.
-func (it *replica) waitForAnswers() bool {
-	patience := time.NewTimer(it.patience)
-	defer patience.Stop()
-	for {
-		it.mu.Lock()
-		isOver, isIdle := it.stopped || it.calls.isOver(), !it.stopped && it.calls.isIdle()
-		changed := it.changes()
-		it.mu.Unlock()
-		if isOver {
-			return isIdle
-		}
-		select {
-		case <-changed:
-		case <-patience.C:
-			return false
-		case <-it.hurried.Done():
-			return false
-		}
-	}
-}
-
-// waitFor waits for the end of a goroutine, if it has begun, which a log may hold up: for a while, and unless that is hurried.
-func waitFor(worker, hurried <-chan struct{}) {
+// waitFor waits for the end of a goroutine, if it has begun, which a log may hold up: for a while, and no longer than until something else has ended.
+func waitFor(worker, other <-chan struct{}) {
 	if worker == nil {
 		return
 	}
@@ -441,6 +416,6 @@ func waitFor(worker, hurried <-chan struct{}) {
 	select {
 	case <-worker:
 	case <-timer.C:
-	case <-hurried:
+	case <-other:
 	}
 }

@@ -66,7 +66,8 @@ func Open(ctx context.Context, log Log, options Options) (*Replicated, error) {
 		return nil, err
 	}
 	if err := replica.start(ctx); err != nil {
-		replica.abandon()
+		replica.close()
+		_ = replica.shutdown(context.Background())
 		return nil, err
 	}
 	own := &handle{replica}

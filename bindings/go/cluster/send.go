@@ -1,9 +1,6 @@
 package cluster
 
-import (
-	"context"
-	"runtime"
-)
+import "context"
 
 // sendAll puts what waits into the log, an entry at a time, each until the log has it, and ends the session.
 func (it *replica) sendAll() {
@@ -13,7 +10,7 @@ func (it *replica) sendAll() {
 		position, err := it.log.Append(it.life, entry)
 		switch {
 		case err == nil:
-			it.sent(position)
+			it.change(func() { it.calls.sent(position) })
 			pauses.reset()
 		case isLogFault(err):
 			it.stopBy(err)
@@ -22,10 +19,7 @@ func (it *replica) sendAll() {
 			pauses.pause(it.life)
 		}
 	}
-	it.mu.Lock()
-	session := it.calls.host.Session()
-	it.mu.Unlock()
-	if session != 0 && it.life.Err() == nil {
+	if session := locked(it, it.calls.host.Session); session != 0 && it.life.Err() == nil {
 		ctx, cancel := context.WithTimeout(it.life, lastWait)
 		defer cancel()
 		// One try: a session that nobody ends goes when there are too many.
@@ -34,29 +28,13 @@ func (it *replica) sendAll() {
 }
 
 // nextEntry waits until there is something to put; nil where nothing more comes.
-func (it *replica) nextEntry() []byte {
-	for {
-		it.mu.Lock()
-		isEnd := it.stopped || (it.closing && it.calls.isIdle())
-		var entry []byte
-		if !isEnd {
-			entry = it.calls.next(it.last)
+func (it *replica) nextEntry() (entry []byte) {
+	it.await(func() bool {
+		if it.stopped || (it.closing && it.calls.isIdle()) {
+			return true
 		}
-		changed := it.changes()
-		it.mu.Unlock()
-		if isEnd || entry != nil {
-			return entry
-		}
-		<-changed
-		// Who is about to submit does so first, and is in the same entry.
-		runtime.Gosched()
-	}
-}
-
-// sent says that the log has the entry that was put, at a position.
-func (it *replica) sent(position uint64) {
-	it.mu.Lock()
-	defer it.mu.Unlock()
-	it.calls.sent(position)
-	it.wake()
+		entry = it.calls.next(it.last)
+		return entry != nil
+	})
+	return entry
 }

@@ -82,10 +82,9 @@ func (it *Submitted) Cancel() bool {
 	if it.by == nil {
 		return false
 	}
-	it.by.mu.Lock()
-	defer it.by.mu.Unlock()
-	defer it.by.wake()
-	return it.by.calls.cancel(it)
+	isCancelled := false
+	it.by.change(func() { isCancelled = it.by.calls.cancel(it) })
+	return isCancelled
 }
 
 // Receipts are where the calls are in the log, by the entries in which they are; nil where they have no answers yet.
@@ -131,10 +130,7 @@ func (it *Submitted) waitOrLeave(ctx context.Context) ([]string, error) {
 	select {
 	case <-it.done:
 	case <-ctx.Done():
-		it.by.mu.Lock()
-		it.by.calls.fail(it, whyEnded(ctx.Err()), ctx.Err())
-		it.by.wake()
-		it.by.mu.Unlock()
+		it.by.change(func() { it.by.calls.fail(it, whyEnded(ctx.Err()), ctx.Err()) })
 	}
 	return it.result()
 }
