@@ -61,6 +61,11 @@ func TestOneThatNobodyHasOpened(t *testing.T) {
 	table.Close()
 	equal(t, table.Position(), 0)
 	check(t, table.Shutdown(background))
+	done, cancel := context.WithCancel(background)
+	cancel()
+	for i := 0; i < 20; i++ {
+		check(t, table.Shutdown(done))
+	}
 	var asked Submitted
 	_, err := asked.Wait(background)
 	equal(t, err, pidtab.ErrClosed)

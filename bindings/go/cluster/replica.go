@@ -77,7 +77,7 @@ func newReplica(log Log, options Options) (*replica, error) {
 
 // closedReplica is one of a table that nobody has opened.
 func closedReplica() *replica {
-	it := &replica{ended: make(chan struct{}), closing: true, stopped: true, kill: func() {}, calls: newOwnCalls()}
+	it := &replica{ended: make(chan struct{}), closing: true, stopped: true, calls: newOwnCalls()}
 	it.ending.Do(func() { close(it.ended) })
 	return it
 }
@@ -381,12 +381,14 @@ func (it *replica) shutdown(ctx context.Context) error {
 	it.ending.Do(func() { go it.finish() })
 	select {
 	case <-it.ended:
-		return nil
 	case <-ctx.Done():
-		it.close()
-		<-it.ended
-		return ctx.Err()
+		if !isClosed(it.ended) {
+			it.close()
+			<-it.ended
+			return ctx.Err()
+		}
 	}
+	return nil
 }
 
 // finish ends all, once nobody waits for an answer: the patience of each who does is over at last.

@@ -101,9 +101,11 @@ func (it *Submitted) Receipts() []Receipt {
 }
 
 // isOver is whether there are answers, or there never will be.
-func (it *Submitted) isOver() bool {
+func (it *Submitted) isOver() bool { return isClosed(it.done) }
+
+func isClosed(it <-chan struct{}) bool {
 	select {
-	case <-it.done:
+	case <-it:
 		return true
 	default:
 		return false
