@@ -1,6 +1,11 @@
 package pidtab
 
-import "testing"
+import (
+	"os"
+	"regexp"
+	"strings"
+	"testing"
+)
 
 const (
 	theSession, laterSession = 100, 200
@@ -159,4 +164,19 @@ func TestHostCallsOfAHostThatHasStopped(t *testing.T) {
 	it.Stop()
 	it.expect(it.tell() == HostToldLoses, it.tell() == HostToldDrops, !it.IsTelling(), entered.IsSent(), !queued.IsSent())
 	it.expect(it.NextPut().Kind == HostPutRest, !it.Submit(new(HostCall), 1, 7, theDeadline))
+}
+
+// Each function of the header has its call.
+func TestEachFunctionOfHostCalls(t *testing.T) {
+	header, fault := os.ReadFile("../c/host_calls.h")
+	code, err := os.ReadFile("host_calls.go")
+	names := regexp.MustCompile(`\bhost_calls_\w+\(`).FindAllString(string(header), -1)
+	if fault != nil || err != nil || len(names) < 15 {
+		t.Fatal(fault, err, names)
+	}
+	for _, name := range names {
+		if !strings.Contains(string(code), "C."+name) {
+			t.Error(name)
+		}
+	}
 }

@@ -140,9 +140,13 @@ func (it *replica) noteAt(position uint64) error {
 func (it *replica) settle(applied pidtab.Applied, entry []byte) error {
 	it.mu.Lock()
 	defer it.mu.Unlock()
+	if applied.Session != it.calls.host.Session() {
+		// Nobody is to be woken by what is another host's.
+		return it.calls.read(applied, nil)
+	}
 	defer it.wake()
 	var answers []string
-	if applied.Outcome == pidtab.EntryMade && applied.Session == it.calls.host.Session() {
+	if applied.Outcome == pidtab.EntryMade {
 		var err error
 		if answers, err = it.machine.Answers(); err != nil {
 			return err
