@@ -13,8 +13,7 @@ const (
 	form      = 2
 	openEntry = "open"
 
-	// An entry of calls has at most so many bytes, and so has a part of a Submit.
-	mostBytes = 512 * 1024
+	// A part of a Submit has at most so many bytes. How many parts go into an entry, the machine says.
 	partBytes = 128 * 1024
 
 	// A line with more bytes is bad, whatever it says: no more of it goes into the log than shows that.
@@ -50,22 +49,6 @@ func asSent(line string) string {
 		return line[:longestLine+1]
 	}
 	return line
-}
-
-// splitLines splits lines into parts, each of which goes into one entry.
-func splitLines(lines []string) [][]string {
-	var parts [][]string
-	size := partBytes
-	for _, line := range lines {
-		sent := asSent(line)
-		size += len(sent) + 1
-		if size > partBytes {
-			parts = append(parts, nil)
-			size = len(sent) + 1
-		}
-		parts[len(parts)-1] = append(parts[len(parts)-1], sent)
-	}
-	return parts
 }
 
 // shorten is the front of a digest, as an entry has it.

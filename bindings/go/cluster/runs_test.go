@@ -13,6 +13,7 @@ import (
 const (
 	runs     = 300
 	runSteps = 150
+	mostSize = 512 * 1024 // of several parts in an entry
 )
 
 // A run has the calls of one host, and a log in which all goes wrong that may: an entry is lost, late or there twice, its acknowledgement is lost, a session
@@ -37,7 +38,7 @@ func (it *run) comes(of int) bool { return it.random.Intn(of) == 0 }
 func (it *run) submit() {
 	submitted := newSubmitted(nil, nil)
 	for count := 1 + it.random.Intn(3); count > 0; count-- {
-		one := &part{of: submitted, size: uint64(it.random.Intn(mostBytes))}
+		one := &part{of: submitted, size: uint64(it.random.Intn(mostSize))}
 		for more := true; more; more = it.comes(2) {
 			it.lines++
 			one.lines = append(one.lines, fmt.Sprint("line ", it.lines))

@@ -44,12 +44,15 @@ type Submitted struct {
 // newSubmitted are lines that nobody has sent.
 func newSubmitted(by *replica, lines []string) *Submitted {
 	it := &Submitted{by: by, done: make(chan struct{})}
-	for _, some := range splitLines(lines) {
-		size := len(some)
-		for _, line := range some {
-			size += len(line)
+	last := &part{size: partBytes}
+	for _, line := range lines {
+		sent := asSent(line)
+		size := uint64(len(sent)) + 1
+		if last.size+size > partBytes {
+			last = &part{of: it}
+			it.parts = append(it.parts, last)
 		}
-		it.parts = append(it.parts, &part{of: it, lines: some, size: uint64(size)})
+		last.lines, last.size = append(last.lines, sent), last.size+size
 	}
 	return it
 }
