@@ -304,6 +304,8 @@ class Interface(unittest.TestCase):
             ("bindings/go/questions.go", "\nfunc (table *Table) Residents(caller uint32, space uint64, from uint32) ([]uint32, error) {\n"),
             ("bindings/go/cluster/queries.go", "\nfunc (table *Replicated) Residents("),
             ("bindings/rust/src/questions.rs", "        page::all(|numbers, reply| self.raw.residents(caller, space, from, numbers, reply))\n"),
+            ("bindings/rust/src/raw.rs", "        fn residents(&self, caller: u32, space: u64, from: u32, numbers: &mut [u32], reply: &mut Reply) =\n"
+             "            pidtab_residents(self.held.get(), caller, space, from, numbers.as_mut_ptr(), numbers.len(), reply);\n"),
             ("bindings/python/pidtab/native.py", "    def residents(self, caller: int, space: int = 0, start: int = 0) -> tuple[int, ...]:\n"),
             ("bindings/python/pidtab/raw.py", '    "pidtab_residents": (U32, [TABLE, U32, U64, U32, NUMBER_32, SIZE_T, REPLY]),\n'),
             ("bindings/js/src/calls.js", "  residents(caller, space = 0n, start = 0) {\n"), ("bindings/js/pidtab.d.ts", "  residents(caller: number, space?: Long, start?: number): number[];\n"),

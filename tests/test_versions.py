@@ -28,7 +28,7 @@ INTERFACES = {
     "bindings/c/pidtab.pc.in": r"^interface=(\d+)$",
     "bindings/c/pidtab.map": r"^PIDTAB_(\d+) \{$",
     "bindings/python/pidtab/raw.py": r"^VERSION = (\d+)$",
-    "bindings/rust/src/raw.rs": r"^    pub\(crate\) const VERSION: u32 = (\d+);$",
+    "bindings/rust/src/raw.rs": r"\bVERSION: u32 = (\d+),",
     "Makefile": r"-soname,libpidtab\.so\.(\d+)",
 }
 

@@ -1,6 +1,6 @@
 """What the package for Rust has of the structs and the functions that the headers of C declare."""
 
-from names import TYPED
+from names import TYPED, wrapped
 
 RAW = "bindings/rust/src/raw.rs"
 
@@ -54,7 +54,7 @@ def functions(tables):
     lines = ["#[rustfmt::skip]", 'extern "C" {']
     for it in functions_of(tables):
         taken = ", ".join(f"{name}: {rust_type(kind)}" for kind, name, _ in it.arguments)
-        lines.append(f"    fn pidtab_{it.name}({taken}) -> {rust_type(it.result)};")
+        lines += wrapped(f"fn pidtab_{it.name}({taken}) -> {rust_type(it.result)};", "        ", 120, "    ")
     return [*lines, "}"]
 
 
@@ -64,22 +64,23 @@ def field_type(field):
     return f"[{kind}; LEVELS_MAX]" if field.many else kind
 
 
-def struct(tables, name, derived=(), access="pub(crate) "):
-    """A struct."""
-    fields = tables["headers"].structs[name]
-    lines = ["", f"/// `struct {name}`.", "#[repr(C)]", *derived, f"{access}struct {camel_struct(f'struct {name}')} {{"]
-    return [*lines, *[f"    {access}{it.name}: {field_type(it)}," for it in fields], "}"]
+def fields(tables, name):
+    """The fields of a struct: names and types."""
+    return [f"{it.name}: {field_type(it)}" for it in tables["headers"].structs[name]]
+
+
+def handle(tables):
+    """The struct of a table. It has one owner, and its fields are the library's."""
+    return ["/// `struct pidtab`.", "#[repr(C)]", "struct Held {", *[f"    {it}," for it in fields(tables, "pidtab")], "}"]
 
 
 def structs(tables):
-    """The structs, and each of zeroes. A table has one owner, and its fields are the library's."""
-    lines, names = struct(tables, "pidtab", access=""), [f"pidtab_{it}" for it in STRUCTS]
-    for name in (*names, *[f"pidtab_{it}" for it in OF_RUST]):
-        lines += struct(tables, name, ["#[derive(Clone, Copy, Debug, PartialEq)]"])
-    for name in ("pidtab", *names):
-        camel = camel_struct(f"struct {name}")
-        lines += ["", f"impl {camel} {{", "    // SAFETY: each field may be zero.", f"    pub(crate) const BLANK: {camel} = unsafe {{ zeroed() }};", "}"]
-    return lines[1:]
+    """The structs that are values."""
+    lines = []
+    for name in [f"pidtab_{it}" for it in (*STRUCTS, *OF_RUST)]:
+        listed = f"struct {camel_struct(f'struct {name}')} {{ {', '.join(fields(tables, name))} }}"
+        lines += [f"    /// `struct {name}`.", *wrapped(listed, "        ", 120, "    ")]
+    return [*handle(tables), "", "structs! {", *lines, "}"]
 
 
 def lent(arguments):
@@ -98,18 +99,30 @@ def lent(arguments):
     return taken, passed
 
 
+def row(function, head, owner):
+    """A function by the names and the types that Rust has, and the call that it is."""
+    taken, passed = lent(function.arguments[len(owner):])
+    said, call = f"fn {function.name}({', '.join([*head, *taken])}) =", f"pidtab_{function.name}({', '.join([*owner, *passed])});"
+    if len(f"{said} {call}") <= 112:
+        return [f"{said} {call}"]
+    return [*wrapped(said, "    ", 112, ""), *wrapped(call, "        ", 112, "    ")]
+
+
+def rows(tables, is_method):
+    """Those that are methods of an open table, or the others."""
+    found = [it for it in functions_of(tables) if it.arguments and it.name not in BY_HAND]
+    return [it for it in found if (it.arguments[0].kind.replace("const ", "") == "struct pidtab *") == is_method]
+
+
 def methods(tables):
     """A method for each function on an open table."""
-    lines = []
-    for it in functions_of(tables):
-        owner, *arguments = it.arguments or [None]
-        if owner is None or owner.kind.replace("const ", "") != "struct pidtab *" or it.name in BY_HAND:
-            continue
-        taken, passed = lent(arguments)
-        lines += ["", f"    pub(crate) fn {it.name}({', '.join(['&self', *taken])}) -> u32 {{"]
-        lines += ["        // SAFETY: the table is open, and each other pointer is that of a reference or of a slice with that length."]
-        lines += [f"        unsafe {{ pidtab_{it.name}({', '.join(['self.held.get()', *passed])}) }}", "    }"]
-    return lines[1:]
+    lines = [line for it in rows(tables, True) for line in row(it, ["&self"], ["self.held.get()"])]
+    return ["    lent! {", *[f"        {line}" for line in lines], "    }"]
 
 
-PARTS = {(RAW, "structs"): structs, (RAW, "functions"): functions, (RAW, "methods of a table"): methods}
+def others(tables):
+    """The functions that are given no table."""
+    return ["lent! {", *[f"    {line}" for it in rows(tables, False) for line in row(it, [], [])], "}"]
+
+
+PARTS = {(RAW, "structs"): structs, (RAW, "functions"): functions, (RAW, "methods of a table"): methods, (RAW, "other functions"): others}

@@ -2,7 +2,7 @@
 
 import textwrap
 
-from names import camel, capitals, sentence, with_id
+from names import camel, capitals, sentence, with_id, wrapped
 
 FAULT = "bindings/rust/src/fault.rs"
 RAW = "bindings/rust/src/raw.rs"
@@ -56,16 +56,16 @@ def all_faults(tables):
     return all_names([it.rust for it in tables["faults"]])
 
 
-def numbers(name, comment, rows):
-    """Constants in a module of their own, as not each is used: names, types and values."""
-    lines = [f"    pub(crate) const {word}: {kind} = {number};" for word, kind, number in rows]
-    return [f"/// {comment}", "#[allow(dead_code)] // Not each is used here.", f"mod {name} {{", *lines, "}", f"pub(crate) use {name}::*;"]
+def numbers(comment, rows):
+    """Constants: names, types and values."""
+    listed = ", ".join(f"{word}: {kind} = {number}" for word, kind, number in rows)
+    return [f"// {comment}", "numbers! {", *wrapped(f"{listed},", "    ", 120), "}"]
 
 
 def statuses(tables):
     """What the functions answer."""
     values = {it.name: it.value for it in tables["errnos"]}
-    return numbers("statuses", "What the functions answer.", [(it.name, "u32", values.get(it.error, 0)) for it in tables["statuses"] if it.of != "replica"])
+    return numbers("What the functions answer.", [(it.name, "u32", values.get(it.error, 0)) for it in tables["statuses"] if it.of != "replica"])
 
 
 def faults(tables):
@@ -85,7 +85,7 @@ def faults(tables):
 
 def kinds(tables):
     """The kinds of a reply, and what a choice says."""
-    return numbers("kinds", "The kinds of a reply, and what a choice says.", [(it.name, "u32", it.number) for it in tables["kinds"] if it.of != "outcome"])
+    return numbers("The kinds of a reply, and what a choice says.", [(it.name, "u32", it.number) for it in tables["kinds"] if it.of != "outcome"])
 
 
 # What is in no header, and a package names in its errors.
@@ -96,12 +96,12 @@ def bounds(tables):
     """The bounds of the headers."""
     types = {"number": "u32", "long": "u64", "size": "usize"}
     rows = [(it.name, types[it.type], it.value) for it in tables["bounds"] if it.of in ("interface", "saved") or it.name in OF_PID_MAX]
-    return numbers("bounds", "The bounds of the headers.", rows)
+    return numbers("The bounds of the headers.", rows)
 
 
 def operations(tables):
     """The calls as numbers."""
-    return numbers("operations", "The operations.", [(capitals(it.call), "u32", it.number) for it in tables["calls"]])
+    return numbers("The operations.", [(capitals(it.call), "u32", it.number) for it in tables["calls"]])
 
 
 def errnos(tables):
