@@ -1,4 +1,2 @@
-pub mod Walking
-pub mod Crossing
 pub mod Words
-pub mod ReplicaWords
+pub mod Walks

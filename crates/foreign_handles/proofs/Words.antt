@@ -1,23 +1,63 @@
--- What an address in C is to the prover: the machine values of a loose box and of a handle. Assumes `Logic`.
-use Rattle.foreign_handles.proofs.Walking.{Goal, Item, List, Logic, None, Option, Ptr, RattleType, Seq, Some, Step, Ura, Val, Valss, [], and_tt, block_ptr}
-use Rattle.foreign_handles.proofs.Walking.{box_owns, dnil, drop, feq_i, feq_l, fjoin, fpack, fpick, fsplit, fst∗, ghosts, handle_tells, has_ty, in_a_block}
-use Rattle.foreign_handles.proofs.Walking.{layout, lone, move, never, nothing, null_ptr, of_list, ptr_val, refl, rewrite, sem, shape, step, subst, vcons}
-use Rattle.foreign_handles.proofs.Walking.{vnil, vptr, vstruct, within, ‵, ℕ, ◌$◌, ◌++◌, ◌∷◌, ◌≡◌}
-use mathlib.Core.Bool.{true, ◌&&◌}
-use lib.Dec.{T}
-use mir.Raw.{raw as bare}
-use mir.Syntax.{impl, tnil}
-use mir.Val.{WT}
-use denote.Builtin.{RawPtr}
-use denote.Param.Laws.{Laws}
-use Rattle.std.specs.declared.alloc.Allocator.{Ghosts}
-use Rattle.std.proofs.alloc.Calls.{Al}
-use Rattle.std.proofs.cell.Inside.{Good}
+-- The words of the toolchain for a walk, passed on from one place, and what a loose box and a handle are to the prover. Assumes `Logic`.
+pub use Rattle.pid_types.proofs.General.{held}
+pub use Rattle.std.proofs.Common.{List, [], ap, refl, subst, sym, ℕ, ◌++◌, ◌∙◌, ◌∷◌, ◌≡◌}
+pub use Rattle.std.proofs.Crossing.{frees}
+pub use Rattle.std.proofs.ResultValues.{and_tt}
+pub use Rattle.std.proofs.alloc.Calls.{Al, Goes-blank, handle_tells}
+pub use Rattle.std.proofs.cell.Inside.{Good, one}
+pub use Rattle.std.proofs.raw_atomic.Walks.{proved, proved_at}
+pub use Rattle.std.specs.Box.Ownership.{box_owns}
+pub use Rattle.std.specs.Global.{Global}
+pub use Rattle.std.specs.Prelude.{IsSome, None, Option, Some}
+pub use Rattle.std.specs.contracts.impls.GlobalAllocator.TheImpl.{ghosts}
+pub use base.Fml.{Fml, GName, flft, fsep, ftrue}
+pub use base.Fraction.{full_share}
+pub use base.Logic.{SProp, emp, ent, fst∗, id⊢, never, sep}
+pub use base.Shift.{Keyless}
+pub use contract.Monad.{fact, fact_i}
+pub use contract.Running.{MachineTables, Running, tables}
+pub use denote.Exit.{Exit, hidden, no, unchanged, under, yes}
+pub use denote.Follow.{Part, follows, lends_Part}
+pub use denote.Memory.{cell_at, lone, mem, part_at, pointee}
+pub use denote.Param.{bounded, layout, param}
+pub use denote.Param.Laws.{Laws, param_laws}
+pub use denote.Param.Send.{IsSend, Quiet, owning_send, part_keyless, sendable, struct_send}
+pub use denote.RattleType.{RattleType, Valss, owns}
+pub use denote.RawPtr.{Ptr, RawPtr, block_ptr, in_a_block, lies_at, null_ptr, ptr_val, rawptr_Lawful}
+pub use denote.Ref.{MutRef, mut_Tells, mut_vals}
+pub use denote.Signature.{mut_ref_to, plain, types_at}
+pub use denote.Steps.{heard, nothing, only, opens, peeks}
+pub use denote.Struct.Owning.{Owning, fields, row, shape, to}
+pub use denote.Struct.Struct.{Struct, exits_of, within}
+pub use denote.Triple.Call.{calls_at, calls_at_last}
+pub use denote.Triple.Clauses.{Clauses, Ended, Lasts, closing, lasts}
+pub use denote.Triple.Spec.{Meets, triple_of}
+pub use denote.Triple.Table.{framed}
+pub use denote.Triple.Walked.{Goes-spent_ref, Stays, ends_at, stay_dropped, walk_of}
+pub use mir.MapTy.{inst_fn}
+pub use mir.Raw.{raw as bare}
+pub use mir.Syntax.{Body, Callee, Fn, Ty, a_type, addr_of, aggregate, assign, block, copy, dcons, deref, dnil, erased, field, impl, local, mut, named, place}
+pub use mir.Syntax.{return, rv_opd, seq, tnil, ty_ptr, ty_ref, value_local}
+pub use mir.Val.{Val, WT, has_ty, of_list, vcons, vnil, vptr, vstruct}
+pub use prog.Wp.{Closed, Env, WpFn}
+pub use seplogic.Ra.Ura.{Ura}
+pub use types.ByLocal.{alloc_all, env, free_all, get, get_in, lands_as, lands_last, look_at, pass_all, sets, sets_last, through}
+pub use types.Kit.{ !, Goal, Item, Seq, Step, at_ret, await, by, done, drop, feq_i, feq_l, fjoin, fpack, fpick, fsplit, fsplit3, group, join, keep, later, move}
+pub use types.Kit.{pick, qed, raw, rewrite, some, split, split3, step, suffices, use0, use1, ‵, ◌$◌, ◌∵◌, ◌⊛◌}
+pub use types.Logic.{Logic, sem}
+pub use types.Part.{agg, look_in, sub, whole}
+pub use types.Run.{addr, and_then, blocks, enter, exec, first, fld, load, no_more, of_opd, returns, stop}
 use Rattle.foreign_handles.specs.Owned.{IfHeld}
-use Rattle.foreign_handles.specs.contracts.handle.Handle as handle
-use Rattle.foreign_handles.specs.contracts.loose.Loose as loose
+use Rattle.std.specs.declared.alloc.Allocator.{Ghosts}
+use denote.Exit.{leaves}
+use denote.Struct.Field.{RawPtr-field}
+use lib.Dec.{T}
+use mathlib.Core.Bool.{true, ◌&&◌}
+use Rattle.foreign_handles.specs.contracts.handle.Handle as table_handle
 use Rattle.foreign_handles.specs.contracts.held.Held as table
-use Rattle.std.specs.contracts.alloc.Global as heap
+use Rattle.foreign_handles.specs.contracts.loose.Loose as loose
+use Rattle.foreign_handles.specs.contracts.replica_handle.ReplicaHandle as replica_handle
+use Rattle.replica.specs.contracts.host.Host as replica
 
 -- an address and a handle to an allocator
 abbrev pub beside : ℕ → ℕ → Val → Val
@@ -54,32 +94,89 @@ module _ (R Z : RattleType) (L : Laws Z) (g : Ghosts Z.Denot) where
         feq_i t (List Val) (beside b o h ∷ []) (beside b o h ∷ []) refl $ fjoin t $
         fpack t (Valss (RawPtr ∷ Z ∷ [])) (within (shape (loose.the_type R Z g)) (block_ptr b o, (a, tt)) (beside b o h ∷ [])) (vptr b o ∷ [], (h ∷ [], tt)) $ fjoin t $ next)
 
+-- a kind of handle: its struct, what it holds, and a handle of its three parts
+pub record Kind : Type 2 where
+  pub struct : Owning
+  pub R : RattleType
+  pub parts : struct.D → Ptr × Option R.Denot × Global
+  pub make : Ptr → Option R.Denot → Global → struct.D
+  pub made : (p : Ptr) (o : Option R.Denot) (a : Global) → parts (make p o a) ≡ (p, o, a)
+
 -- a handle is its address
 abbrev pub alone : ℕ → ℕ → Val
 alone b o = vstruct (vcons (vptr b o) vnil)
 
-module _ {M : Type 1} {𝓤 : Ura M} {𝓛 : Logic 𝓤} {K : Type 0} {Γ : List (Item 𝓤)} {G : Goal 𝓤 𝓛.H} where
-  -- what is at an address is what a handle with that address owns
-  pub handle_closes : K → (b o : ℕ) (x : table.the_row.Denot) (a : heap.the_row.Denot)
-      → Step K 𝓛 (‵ (handle.the_row.own_val (record { at = block_ptr b o; held = Some x; heap = a }) (alone b o ∷ [])) ∷ Γ) G (‵ (box_owns (ghosts.dealloc_token a) table.the_row (block_ptr b o) x) ∷ Γ) G
-  handle_closes t b o x a = step (λ next.
-      nothing t $ feq_i t (List Val) (vptr b o ∷ []) (vptr b o ∷ []) refl $ fjoin t $ feq_i t (List Val) (alone b o ∷ []) (alone b o ∷ []) refl $ fjoin t $
-      fpack t (Valss (RawPtr ∷ [])) (within (shape handle.the_type) (block_ptr b o, tt) (alone b o ∷ [])) (vptr b o ∷ [], tt) $ fjoin t $ next)
+module _ (K : Kind) where
+  abbrev pub the_type : Owning
+  the_type = record {
+    name = K.struct.name;
+    args = [];
+    types = [];
+    parts = RawPtr-field ∷ [];
+    D = K.struct.D;
+    as_values = λ d. ((K.parts d).0, tt);
+    coded = K.struct.coded;
+    heap = λ d. IfHeld (K.parts d).1 (box_owns (ghosts.dealloc_token (K.parts d).2) K.R (K.parts d).0);
+    exit = λ k. hidden (under (λ d. ((K.parts d).0, tt)) (exits_of k (RawPtr ∷ [])));
+    shr_at = K.struct.shr_at;
+  }
 
-  -- a handle without a table owns nothing, whatever its address is
-  pub handle_of_none : K → (p : Ptr) (a : heap.the_row.Denot)
-      → Step K 𝓛 (‵ (handle.the_row.own_val (record { at = p; held = None; heap = a }) (vstruct (vcons (ptr_val p) vnil) ∷ [])) ∷ Γ) G Γ G
-  handle_of_none t p a = step (λ next. let word : Val = vstruct (vcons (ptr_val p) vnil) in
-      nothing t $ nothing t $ feq_i t (List Val) (ptr_val p ∷ []) (ptr_val p ∷ []) refl $ fjoin t $ feq_i t (List Val) (word ∷ []) (word ∷ []) refl $ fjoin t $
-      fpack t (Valss (RawPtr ∷ [])) (within (shape handle.the_type) (p, tt) (word ∷ [])) (ptr_val p ∷ [], tt) $ fjoin t $ next)
+  abbrev pub Handle : RattleType
+  Handle = row the_type
 
-  -- what a handle with a table owns is what is at its address
-  pub handle_opens : K → (d : handle.the_row.Denot) (x : table.the_row.Denot) (vs : List Val) → d.held ≡ Some x
-      → ((b o : ℕ) → d.at ≡ block_ptr b o → vs ≡ alone b o ∷ [] → Seq K 𝓛 (‵ (box_owns (ghosts.dealloc_token d.heap) table.the_row (block_ptr b o) x) ∷ Γ) G)
-      → Seq K 𝓛 (‵ (handle.the_row.own_val d vs) ∷ Γ) G
-  handle_opens t d x vs holds next =
-      fsplit t $ fpick t (λ parts. fsplit t $ feq_l t (λ whole. fsplit t $ feq_l t (λ address. drop t $
-      rewrite t 0 (λ (m : Option table.the_row.Denot). ‵ (IfHeld m (box_owns (ghosts.dealloc_token d.heap) table.the_row d.at))) holds refl $
-      in_a_block t d.at (λ p. box_owns (ghosts.dealloc_token d.heap) table.the_row p x) (fst∗ 𝓤 (never 𝓤) (sem 𝓛 (ghosts.dealloc_token d.heap (bare (lone table.the_row.mir)) null_ptr))) (λ b o here.
-      let with_address = subst (λ (us : List Val). vs ≡ vstruct (of_list (us ++ [])) ∷ []) address whole in
-      next b o here (subst (λ (p : Ptr). vs ≡ vstruct (of_list (ptr_val p ∷ [])) ∷ []) here with_address)))))
+  -- the handle with another value at its address
+  abbrev pub with_value : K.struct.D → K.R.Denot → K.struct.D
+  with_value d x = K.make (K.parts d).0 (Some x) (K.parts d).2
+
+  abbrev owned : (Ptr × Option K.R.Denot × Global) → List Val → Fml
+  owned s vs = fsep ((Struct (shape the_type)).own_val (s.0, tt) vs) (IfHeld s.1 (box_owns (ghosts.dealloc_token s.2) K.R s.0))
+
+  module _ {M : Type 1} {𝓤 : Ura M} {𝓛 : Logic 𝓤} {C : Type 0} {Γ : List (Item 𝓤)} {G : Goal 𝓤 𝓛.H} where
+    -- what is at an address is what a handle with that address owns
+    pub handle_closes : C → (b o : ℕ) (x : K.R.Denot) (a : Global)
+        → Step C 𝓛 (‵ (Handle.own_val (K.make (block_ptr b o) (Some x) a) (alone b o ∷ [])) ∷ Γ) G (‵ (box_owns (ghosts.dealloc_token a) K.R (block_ptr b o) x) ∷ Γ) G
+    handle_closes t b o x a = step (λ next.
+        nothing t $ feq_i t (List Val) (vptr b o ∷ []) (vptr b o ∷ []) refl $ fjoin t $ feq_i t (List Val) (alone b o ∷ []) (alone b o ∷ []) refl $ fjoin t $
+        fpack t (Valss (RawPtr ∷ [])) (within (shape the_type) (block_ptr b o, tt) (alone b o ∷ [])) (vptr b o ∷ [], tt) $ fjoin t $
+        rewrite t 0 (λ (s : Ptr × Option K.R.Denot × Global). ‵ (owned s (alone b o ∷ []))) (sym (K.made (block_ptr b o) (Some x) a)) refl $ next)
+
+    -- a handle that holds nothing owns nothing, whatever its address is
+    pub handle_of_none : C → (p : Ptr) (a : Global) → Step C 𝓛 (‵ (Handle.own_val (K.make p None a) (vstruct (vcons (ptr_val p) vnil) ∷ [])) ∷ Γ) G Γ G
+    handle_of_none t p a = step (λ next. let word : Val = vstruct (vcons (ptr_val p) vnil) in
+        nothing t $ nothing t $ feq_i t (List Val) (ptr_val p ∷ []) (ptr_val p ∷ []) refl $ fjoin t $ feq_i t (List Val) (word ∷ []) (word ∷ []) refl $ fjoin t $
+        fpack t (Valss (RawPtr ∷ [])) (within (shape the_type) (p, tt) (word ∷ [])) (ptr_val p ∷ [], tt) $ fjoin t $
+        rewrite t 0 (λ (s : Ptr × Option K.R.Denot × Global). ‵ (owned s (word ∷ []))) (sym (K.made p None a)) refl $ next)
+
+    -- what a handle that holds something owns is what is at its address
+    pub handle_opens : C → (d : K.struct.D) (x : K.R.Denot) (vs : List Val) → (K.parts d).1 ≡ Some x
+        → ((b o : ℕ) → (K.parts d).0 ≡ block_ptr b o → vs ≡ alone b o ∷ [] → Seq C 𝓛 (‵ (box_owns (ghosts.dealloc_token (K.parts d).2) K.R (block_ptr b o) x) ∷ Γ) G)
+        → Seq C 𝓛 (‵ (Handle.own_val d vs) ∷ Γ) G
+    handle_opens t d x vs holds next = let at = (K.parts d).0 in let token = ghosts.dealloc_token (K.parts d).2 in
+        fsplit t $ fpick t (λ parts. fsplit t $ feq_l t (λ whole. fsplit t $ feq_l t (λ address. drop t $
+        rewrite t 0 (λ (m : Option K.R.Denot). ‵ (IfHeld m (box_owns token K.R at))) holds refl $
+        in_a_block t at (λ p. box_owns token K.R p x) (fst∗ 𝓤 (never 𝓤) (sem 𝓛 (token (bare (lone K.R.mir)) null_ptr))) (λ b o here.
+        let with_address = subst (λ (us : List Val). vs ≡ vstruct (of_list (us ++ [])) ∷ []) address whole in
+        next b o here (subst (λ (p : Ptr). vs ≡ vstruct (of_list (ptr_val p ∷ [])) ∷ []) here with_address)))))
+
+abbrev pub of_table : Kind
+of_table = record { struct = table_handle.the_type; R = table.the_row; parts = λ d. (d.at, d.held, d.heap); make = λ p o a. record { at = p; held = o; heap = a }; made = λ p o a. refl }
+
+abbrev pub of_replica : Kind
+of_replica = record { struct = replica_handle.the_type; R = replica.the_row; parts = λ d. (d.at, d.held, d.heap); make = λ p o a. record { at = p; held = o; heap = a }; made = λ p o a. refl }
+
+pub still_quiet : {D X : Type 0} (to : D → X) (e : Exit X) → Quiet e → Quiet (hidden (under to e))
+still_quiet to unchanged quiet = λ x w. tt
+still_quiet to (leaves L l S s r₀) quiet = λ d. quiet (to d)
+
+pub at_address : (R : RattleType) → IsSend R → (p : Ptr) (x : R.Denot) → Keyless (lies_at R full_share p x)
+at_address R may (block_ptr b o) x = part_keyless R may full_share x b o
+at_address R may null_ptr x = tt
+
+pub if_held : {X : Type 0} (o : Option X) (F : X → Fml) → ((x : X) → Keyless (F x)) → Keyless (IfHeld o F)
+if_held None F each = tt
+if_held (Some x) F each = each x
+
+pub sent : (K : Kind) → IsSend K.R → IsSend (Handle K)
+sent K may = let T = the_type K in let fields_may : IsSend RawPtr = search sendable in
+    owning_send T (fields_may, tt) (λ d. let s = K.parts d in if_held s.1 _ (λ x. (at_address K.R may s.0 x, frees.frees s.2 (bare (lone K.R.mir)) s.0)))
+    (λ k. still_quiet (to T) (exits_of k (fields T)) ((struct_send (shape T) (fields_may, tt)).leaving k))

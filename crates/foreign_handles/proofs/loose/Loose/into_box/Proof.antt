@@ -1,21 +1,16 @@
 -- `into_box` makes the box again.
-use Rattle.foreign_handles.proofs.Walking.{ !, Goes-blank, List, RattleType, SProp, Stays, Val, WpFn, [], a_type, alloc_all, and_then, at_ret, await}
-use Rattle.foreign_handles.proofs.Walking.{block_ptr, blocks, bounded, by, dcons, dnil, drop, ent, enter, env, exec, fact, feq_i, first, fjoin, fld, flft}
-use Rattle.foreign_handles.proofs.Walking.{framed, free_all, fsplit, ftrue, get, get_in, id⊢, inst_fn, join, keep, later, look_at, move, no, no_more, nothing}
-use Rattle.foreign_handles.proofs.Walking.{of_opd, owns, param, param_laws, pass_all, pick, plain, proved_at, qed, raw, refl, returns, sets, some, split}
-use Rattle.foreign_handles.proofs.Walking.{split3, stay_dropped, stop, sub, subst, suffices, sym, tables, triple_of, types_at, use1, vptr, walk_of, whole, ‵}
-use Rattle.foreign_handles.proofs.Walking.{◌$◌, ◌++◌, ◌∵◌, ◌∷◌, ◌≡◌, ◌⊛◌}
-use types.ByLocal.{lands_last}
+use Rattle.foreign_handles.proofs.Words.{ !, Goes-blank, Lasts, List, Loose, RattleType, SProp, Stays, Val, WpFn, [], a_type, alloc_all, and_then, at_ret}
+use Rattle.foreign_handles.proofs.Words.{await, beside, beside_fits, block_ptr, blocks, bounded, by, calls_at_last, dcons, dnil, drop, ent, enter, env, exec}
+use Rattle.foreign_handles.proofs.Words.{fact, feq_i, first, fjoin, fld, flft, framed, free_all, fsplit, ftrue, get, get_in, id⊢, inst_fn, join, keep}
+use Rattle.foreign_handles.proofs.Words.{lands_last, lasts, later, look_at, loose_opens, move, no, no_more, nothing, of_opd, owns, param, param_laws, pass_all}
+use Rattle.foreign_handles.proofs.Words.{peeks, pick, plain, proved_at, qed, raw, refl, returns, sets, some, split, split3, stay_dropped, stop, sub, subst}
+use Rattle.foreign_handles.proofs.Words.{suffices, sym, tables, triple_of, types_at, use1, vptr, walk_of, whole, ‵, ◌$◌, ◌++◌, ◌∵◌, ◌∷◌, ◌≡◌, ◌⊛◌}
 use contract.BorrowLft.{◌⊑◌}
 use denote.Laws.{Is, shows}
-use denote.Steps.{peeks}
-use denote.Triple.Clauses.{Lasts, lasts}
-use denote.Triple.Call.{calls_at_last}
 use Rattle.std.proofs.VecSteps.Shapes.{after}
 use Rattle.std.specs.contracts.boxed.Box as box
 use Rattle.std.proofs.boxed.Box.TheLaws as box_laws
 use Rattle.std.proofs.raw_atomic.Walks.{leaves}
-use Rattle.foreign_handles.proofs.Words.{beside, beside_fits, Loose, loose_opens}
 use Rattle.std.specs.contracts.boxed.Box.from_raw as callee
 use Rattle.std.proofs.boxed.Box.from_raw.Met.{met}
 use Rattle.foreign_handles.specs.contracts.loose.Loose.into_box as f

@@ -1,24 +1,15 @@
 -- `of` takes the box apart, and keeps its address and its allocator.
-use Rattle.foreign_handles.proofs.Walking.{ !, Goes-blank, List, Ptr, RattleType, SProp, Stays, Val, WpFn, [], a_type, agg, alloc_all, and_then, await}
-use Rattle.foreign_handles.proofs.Walking.{block_ptr, bounded, box_owns, by, dcons, dnil, drop, emp, ent, enter, fact, fact_i, feq_l, fjoin, fld, flft, fpick}
-use Rattle.foreign_handles.proofs.Walking.{framed, free_all, fsep, fsplit, fst∗, ftrue, get, get_in, handle_tells, heard, id⊢, in_a_block, inst_fn, join}
-use Rattle.foreign_handles.proofs.Walking.{keep, later, layout, look_at, move, never, no, no_more, nothing, null_ptr, of_list, of_opd, owns, param}
-use Rattle.foreign_handles.proofs.Walking.{param_laws, pass_all, pick, plain, proved_at, ptr_val, qed, raw, refl, returns, rewrite, sem, sets, some, split}
-use Rattle.foreign_handles.proofs.Walking.{split3, stay_dropped, stop, sub, subst, suffices, sym, tables, triple_of, types_at, use0, use1, vstruct, walk_of}
-use Rattle.foreign_handles.proofs.Walking.{‵, ◌$◌, ◌++◌, ◌∵◌, ◌∷◌, ◌≡◌, ◌⊛◌}
-use Rattle.std.proofs.Common.{ap, ◌∙◌}
-use mir.Raw.{raw as bare}
-use types.ByLocal.{lands_as}
-use types.Part.{whole as whole-of}
-use denote.Builtin.{RawPtr}
-use denote.Steps.{only}
+use Rattle.foreign_handles.proofs.Words.{ !, Goes-blank, List, Ptr, RattleType, RawPtr, SProp, Stays, Val, WpFn, [], a_type, agg, alloc_all, allocator}
+use Rattle.foreign_handles.proofs.Words.{and_then, ap, await, bare, beside, beside_fits, block_ptr, bounded, box_owns, by, calls_at, dcons, dnil, drop, emp}
+use Rattle.foreign_handles.proofs.Words.{ent, enter, fact, fact_i, feq_l, fjoin, fld, flft, fpick, framed, free_all, fsep, fsplit, fst∗, ftrue, get, get_in}
+use Rattle.foreign_handles.proofs.Words.{handle_tells, heard, id⊢, in_a_block, inst_fn, join, keep, lands_as, later, layout, look_at, loose_closes, move, never}
+use Rattle.foreign_handles.proofs.Words.{no, no_more, nothing, null_ptr, of_list, of_opd, one, only, owns, param, param_laws, pass_all, pick, plain, proved_at}
+use Rattle.foreign_handles.proofs.Words.{ptr_val, qed, raw, refl, returns, rewrite, sem, sets, some, split, split3, stay_dropped, stop, sub, subst, suffices}
+use Rattle.foreign_handles.proofs.Words.{sym, tables, triple_of, types_at, use0, use1, vstruct, walk_of, whole, ‵, ◌$◌, ◌++◌, ◌∙◌, ◌∵◌, ◌∷◌, ◌≡◌, ◌⊛◌}
 use denote.Struct.Tuple.{Tuple}
-use denote.Triple.Call.{calls_at}
-use Rattle.std.proofs.cell.Inside.{one}
 use Rattle.std.specs.contracts.boxed.Box as box
 use Rattle.std.proofs.boxed.Box.TheLaws as box_laws
 use Rattle.std.proofs.raw_atomic.Walks.{leaves}
-use Rattle.foreign_handles.proofs.Words.{beside, beside_fits, allocator, loose_closes}
 use Rattle.std.specs.contracts.boxed.Box.into_raw_with_allocator as callee
 use Rattle.std.proofs.boxed.Box.into_raw_with_allocator.Met.{met}
 use Rattle.foreign_handles.specs.contracts.loose.Loose.of as f
@@ -46,12 +37,12 @@ of_spec 𝓤 𝓛 𝓜 𝓡 wired T A L LA g d dx dd allocates glue glued =
     await ! tt $ pick ! (λ r. split ! $ move ! (1 ∷ []) $ pick ! (λ _. split3 ! $ drop ! $ heard ! (r.1 ≡ a) (λ same.
     -- [what is at the address; the tokens and the pair]
     in_a_block ! r.0 (λ p. box_owns (g.dealloc_token a) R p x) (fst∗ 𝓤 (never 𝓤) (sem 𝓛 (g.dealloc_token a (bare (layout T)) null_ptr))) (λ b o here.
-    move ! (1 ∷ []) $ split ! $ move ! (1 ∷ []) $ fpick ! (λ parts. fsplit ! $ feq_l ! (λ whole. fsplit ! $ feq_l ! (λ address. fsplit ! $ rewrite ! 0 (λ (s : A.Denot). ‵ (A.own_val s parts.1.0)) same refl $
+    move ! (1 ∷ []) $ split ! $ move ! (1 ∷ []) $ fpick ! (λ parts. fsplit ! $ feq_l ! (λ whole_is. fsplit ! $ feq_l ! (λ address. fsplit ! $ rewrite ! 0 (λ (s : A.Denot). ‵ (A.own_val s parts.1.0)) same refl $
     handle_tells (allocator R Z LZ g) ! a parts.1.0 (λ h is_h good.
     -- [the handle to the allocator; nothing; the tokens; what is at the address]
-    let made = beside_fits R Z LZ g b o h good in let pair_is = whole ∙ (λ i. vstruct (of_list ((address ∙ ap (λ (p : Ptr). ptr_val p ∷ []) here) i ++ (is_h i ++ []))) ∷ []) in
+    let made = beside_fits R Z LZ g b o h good in let pair_is = whole_is ∙ (λ i. vstruct (of_list ((address ∙ ap (λ (p : Ptr). ptr_val p ∷ []) here) i ++ (is_h i ++ []))) ∷ []) in
     lands_as ! (ap only pair_is) refl made $
-    sets ! (of_opd ! (get_in ! (fld ! refl (stop !)) (sub ! 0 refl (whole-of !)))) refl (tt, tt) $ sets ! (of_opd ! (get_in ! (fld ! refl (stop !)) (sub ! 1 refl (whole-of !)))) refl good $
+    sets ! (of_opd ! (get_in ! (fld ! refl (stop !)) (sub ! 0 refl (whole !)))) refl (tt, tt) $ sets ! (of_opd ! (get_in ! (fld ! refl (stop !)) (sub ! 1 refl (whole !)))) refl good $
     sets ! (of_opd ! (get ! refl)) refl good $ sets ! (agg ! (and_then ! (get ! refl) (and_then ! (get ! refl) (no_more !)))) refl made $
     move ! (3 ∷ 0 ∷ []) $ loose_closes R Z LZ g ! b o h a x $
     use0 𝓛 (raw (fact 𝓤 (x ≡ x))) (fact_i 𝓤 (x ≡ x) (emp 𝓤) refl) $ nothing ! $ nothing ! $ fjoin ! $
