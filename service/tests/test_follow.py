@@ -31,6 +31,8 @@ class Follows(Case):
     def test_the_same_table(self):
         """Random calls over many logs: the follower has the same text, behind a few milliseconds, and records the same log."""
         one, client, two, other = self.two()
+        # It follows before the calls come: one that comes after them takes the table anew.
+        wait_for(other, 1)
         dice = random.Random(4)
         for _ in range(60):
             lines = [dice.choice(["FORK 1", "FORK 2", f"EXIT {dice.randrange(2, 300)} 1", "WAIT 1 ANY", "MK 0", "EXEC 1", "FORK 1 NEW"]) for _ in range(50)]
