@@ -2,9 +2,11 @@
 use Rattle.model_laws.proofs.Words.{◌≡◌, ◌⊎◌, ◌||◌, ℕ, Bool, true, false, List, [], ◌∷◌, ◌++◌, refl, sym, ap, ◌∙◌, inl, inr, arith, Call, Space, State, Outcome, with_row, without_row, with_control, without_control, with_limit, with_cursors, fall, step, is_within, IsIn, IsBelow, IsSound}
 use Rattle.model_laws.proofs.Ground.{IsIn-from_map, space_at-Some, unique_key}
 use Rattle.model_laws.proofs.Lists.{IsIn-append}
-use Rattle.model_laws.proofs.Calls.{Comes, still, born, born_first, fell, handed_on, waits, reaped, grouped, led, executed, control_made, control_removed, limit_set, moved, joined, marked}
+use Rattle.model_laws.proofs.Calls.{Comes, still, born, born_first, fell, handed_on, waits, reaped, grouped, led, executed, control_made, control_removed, limit_set, moved, joined, joined_other, marked}
 use Rattle.model_laws.proofs.Refusals.{step_comes}
 use Rattle.model_laws.proofs.Sweeps.{from_kept}
+use Rattle.pid_types.specs.Changes.{after_exec, with_home}
+use Rattle.pid_types.specs.Exit.{handed_over}
 use Rattle.call_effects.specs.Touched.{KeepsParents}
 
 -- the namespace was there, in the same place, and has fallen where it had
@@ -27,7 +29,7 @@ stays_fallen true c e = refl
 stays_fallen false c e = absurd (cc)
 
 all_from : (state : State) (stamp : ℕ) (call : Call) (o : Outcome) → Comes state stamp call o → (t : Space) → IsIn t o.state.spaces → IsFrom state.spaces stamp t
-unfolding with_row without_row with_control without_control with_limit with_cursors fall
+unfolding with_row without_row with_control without_control with_limit with_cursors fall after_exec handed_over with_home
 all_from state stamp call o (still _ reply answer) t i = itself state.spaces stamp t i
 all_from state stamp call o (waits _ _ caller there none) t i = itself state.spaces stamp t i
 all_from state stamp call o (fell n status caller there deep one) t i =
@@ -50,14 +52,15 @@ all_from state stamp call o (born_first n caller found stands shallow here may) 
     ]
 all_from state stamp call o (handed_on _ _ caller there none) t i = itself state.spaces stamp t (from_kept _ t i).0
 all_from state stamp call o (reaped _ _ caller gone there least) t i = itself state.spaces stamp t (from_kept _ t i).0
-all_from state stamp call o (grouped _ _ _ caller target group there aimed same own found) t i = itself state.spaces stamp t (from_kept _ t i).0
+all_from state stamp call o (grouped _ _ _ caller target group there aimed leads same own found) t i = itself state.spaces stamp t (from_kept _ t i).0
 all_from state stamp call o (led _ caller there none) t i = itself state.spaces stamp t (from_kept _ t i).0
 all_from state stamp call o (executed n caller found) t i = itself state.spaces stamp t (from_kept _ t i).0
 all_from state stamp call o (control_made parent c found shallow) t i = itself state.spaces stamp t (from_kept _ t i).0
 all_from state stamp call o (control_removed id parent c found under idle) t i = itself state.spaces stamp t (from_kept _ t i).0
 all_from state stamp call o (limit_set id parent limit c found under good) t i = itself state.spaces stamp t (from_kept _ t i).0
 all_from state stamp call o (moved n id task c found there) t i = itself state.spaces stamp t (from_kept _ t i).0
-all_from state stamp call o (joined n target caller row found there live) t i = itself state.spaces stamp t (from_kept _ t i).0
+all_from state stamp call o (joined n target caller row found there live none) t i = itself state.spaces stamp t (from_kept _ t i).0
+all_from state stamp call o (joined_other n target caller row u found there live some) t i = itself state.spaces stamp t (from_kept _ t i).0
 all_from state stamp call o (marked n on caller found) t i = itself state.spaces stamp t (from_kept _ t i).0
 
 pub keeps_spaces : (state : State) (stamp : ℕ) (call : Call) → IsSound state → IsBelow stamp state → KeepsParents state (step state stamp call).state

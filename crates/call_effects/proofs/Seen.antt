@@ -1,5 +1,5 @@
 -- What the table is asked before a call, as the model has it.
-use Rattle.std.proofs.Common.{◌≡◌, ℕ, Bool, true, false, ◌==◌, nat_le, List, filter, Option, Some, None, inl, inr, refl, sym, ap, subst, ◌∙◌, arith, option_map, option_and_then, unwrap_or}
+use Rattle.std.proofs.Common.{◌≡◌, ℕ, Bool, true, false, ◌==◌, nat_le, List, [], filter, Option, Some, None, inl, inr, refl, sym, ap, subst, ◌∙◌, arith, option_map, option_and_then, unwrap_or}
 use Rattle.std.specs.Prelude.{Result, Ok, Err}
 use Rattle.std.specs.Option.{option_map_or, option_eq}
 use Rattle.std.proofs.lemmas.Bool.{eq-eqb, eqb-true}
@@ -21,7 +21,9 @@ unfoldable use Rattle.pid_types.specs.Queries.{get_pid, next}
 unfoldable use Rattle.pid_types.specs.Step.{step}
 use Rattle.model_laws.proofs.Ancestry.{number-root, root_init_row}
 use Rattle.model_laws.proofs.Lists.{IsIn-filter, IsIn-filter_map, IsIn-from_filter, IsIn-from_filter_map}
-use Rattle.model_laws.proofs.Names.{IsIn-names_in_use}
+use Rattle.model_laws.proofs.Names.{IsIn-names_in_use, used_by_row}
+use Rattle.task_table.proofs.Alone.{caller-live}
+use Rattle.pid_types.specs.Threads.{caller_of}
 unfoldable use Rattle.translate.specs.Stat.{stat_at}
 use Rattle.translate.specs.Stat.{stat_of}
 use Rattle.translate.specs.declared.page.Page.{Page}
@@ -56,7 +58,7 @@ seen_root state n m = go (live_row state.rows n)
     go (Some caller) = task caller (self_or_task state caller m)
 
 -- a caller is the init of its own namespace where its number there is 1
-pub own_init : (state : State) (stamp n : ℕ) (row : Row) → live_row state.rows n ≡ Some row → is_number 1 (step state stamp (GetPid n)).reply ≡ is_init state row
+pub own_init : (state : State) (stamp n : ℕ) (row : Row) → caller_of state n ≡ Some row → is_number 1 (step state stamp (GetPid n)).reply ≡ is_init state row
 unfolding step get_pid
 own_init state stamp n row at =
     ap (λ o. is_number 1 (option_map_or (λ (caller : Row). Number (seen_number state caller caller.name)) o (Refused NoCaller))) at
@@ -90,7 +92,7 @@ named_in_use state Session row i = IsIn-names_in_use state.rows row row.session 
 named_at_root : (state : State) → IsSound state → (kind : Kind) (row : Row) → IsIn row state.rows → number state.spaces (name_by kind row) 0 ≡ Some (root_number (name_by kind row))
 named_at_root state sound kind row i =
     let name = name_by kind row in
-    number-root state.spaces state.pid_max name sound.coherent.spaces (sound.coherent.numbered name (named_in_use state kind row i))
+    number-root state.spaces state.pid_max name sound.coherent.spaces (sound.coherent.numbered name (used_by_row state name (named_in_use state kind row i)))
 
 -- the next number from one on is that one, just where it has members
 next_is : (state : State) → IsSound state → (kind : Kind) (n : ℕ)
@@ -124,11 +126,12 @@ next_is state sound kind n = go (has_members_as kind state n) refl
                 absurd (let z : true ≡ false = sym (has_member kind state r.0 n r.1 same) ∙ so in cc)
 
 -- so the root init is told whether there are members
-pub members_asked : (state : State) (stamp n : ℕ) (kind : Kind) → IsSound state → is_number n (step state stamp (Next 1 kind n)).reply ≡ has_members_as kind state n
+pub members_asked : (state : State) (stamp n : ℕ) (kind : Kind) → IsSound state → state.threads ≡ [] → state.left ≡ []
+    → is_number n (step state stamp (Next 1 kind n)).reply ≡ has_members_as kind state n
 unfolding step next
-members_asked state stamp n kind sound =
+members_asked state stamp n kind sound threads left =
     let r = root_init_row state sound.coherent in
-    let at : live_row state.rows 1 ≡ Some r.0 = subst (λ m. live_row state.rows m ≡ Some r.0) r.4 (live_row-listed state sound.coherent r.0 r.1 r.2) in
+    let at = caller-live state threads left 1 ∙ subst (λ m. live_row state.rows m ≡ Some r.0) r.4 (live_row-listed state sound.coherent r.0 r.1 r.2) in
     ap (λ o. is_number n (option_map_or (λ (caller : Row). option_map_or Number (least_of (filter (nat_le n) (numbers_by state kind caller.name.space))) End) o (Refused NoCaller))) at
     ∙ ap (λ s. is_number n (option_map_or Number (least_of (filter (nat_le n) (numbers_by state kind s))) End)) r.3
     ∙ next_is state sound kind n

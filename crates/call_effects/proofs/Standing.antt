@@ -2,10 +2,11 @@
 use Rattle.model_laws.proofs.Words.{◌≡◌, ◌<◌, ℕ, zero, suc, Bool, true, false, not, nat_lt, List, [], ◌∷◌, filter, flat_map, map, Option, Some, None, is_some, option_and_then, option_map, option_map_or, refl, sym, ap, ◌∙◌, subst, inl, inr, arith, Name, Row, Space, State, names_in_use, number, parent_space, path_up, root_number, space_at, is_live, IsIn, IsRising, IsSound}
 use Rattle.std.specs.Prelude.{IfSome}
 unfoldable use Rattle.pid_types.specs.Chains.{climb}
-use Rattle.model_laws.proofs.Ground.{IsIn-filter, IsIn-from_filter, number-on_path, number-within, own_name_in_use, path_first, path_listed, space_at-Some, user_of_name, Uses}
+use Rattle.model_laws.proofs.Ground.{IsIn-filter, IsIn-from_filter, number-on_path, number-within, own_in_use, path_first, path_listed, space_at-Some, user_of_name, Uses}
 use Rattle.model_laws.proofs.Chains.{climb-None, climb-Some, climb-stopped, IsIn-climb_first, IsIn-climb_parent, Stops-at_root}
 use Rattle.model_laws.proofs.Lists.{IsIn-flat_map, IsIn-from_flat_map}
-use Rattle.model_laws.proofs.Names.{IsIn-names_in_use}
+use Rattle.model_laws.proofs.Names.{IsIn-names_in_use, used_by_row}
+use Rattle.task_table.proofs.Alone.{in_use-rows}
 use Rattle.model_laws.proofs.Trees.{root_space_parent}
 use Rattle.translate.specs.Pages.{AreListedFrom}
 use Rattle.translate.specs.Relations.{relations_of}
@@ -139,7 +140,7 @@ module _ (old : State) (sound : IsSound old) (numbers : List ℕ) (tasks : List 
   pub own_there : (x : ℕ) → IsIn x (flat_map watched_spaces tasks) → is_space old x ≡ true
   own_there x on =
       let a = own_name x on in
-      let l = (sound.coherent.numbered a.0 a.1).listed x (subst (λ n. IsIn x (path_up old.spaces n)) (sym a.2) (path_first old.spaces x)) in
+      let l = (sound.coherent.numbered a.0 (used_by_row old a.0 a.1)).listed x (subst (λ n. IsIn x (path_up old.spaces n)) (sym a.2) (path_first old.spaces x)) in
       ap is_some l.1
 
   -- and so is all that is listed
@@ -148,26 +149,26 @@ module _ (old : State) (sound : IsSound old) (numbers : List ℕ) (tasks : List 
       let m = IsIn-from_flat_map (inner_path old) x own ((listed.each x).0 on).1 in
       let a = own_name m.0 ((owns.each m.0).0 m.1).1 in
       let f = IsIn-from_filter (nat_lt 0) x (path_up old.spaces m.0) m.2 in
-      let l = (sound.coherent.numbered a.0 a.1).listed x (subst (λ n. IsIn x (path_up old.spaces n)) (sym a.2) f.0) in
+      let l = (sound.coherent.numbered a.0 (used_by_row old a.0 a.1)).listed x (subst (λ n. IsIn x (path_up old.spaces n)) (sym a.2) f.0) in
       ap is_some l.1
 
 -- ---- what is not around a watched name
 
 module _ (old new : State) (sound : IsSound old) (sound_new : IsSound new) (keeps : KeepsParents old new) (numbers : List ℕ) (tasks : List Watched)
     (touches : Touches old new numbers) (watched : AreWatched old numbers tasks) (own ids : List ℕ) (owns : AreListedFrom (flat_map watched_spaces tasks) 0 own)
-    (listed : AreListedFrom (flat_map (inner_path old) own) 0 ids) where
+    (listed : AreListedFrom (flat_map (inner_path old) own) 0 ids) (alone : old.threads ≡ []) where
   -- a name that is used before and one that is used behind, of one namespace, have one path
   path_same : (a b : Name) → IsIn a (names_in_use old.rows) → IsIn b (names_in_use new.rows) → b.space ≡ a.space → path_up new.spaces a.space ≡ path_up old.spaces a.space
   unfolding path_up
   path_same a b i j same =
-      climb_both old.spaces new.spaces (λ id s t here there. (keeps id s t here there).0) 33 a.space (sound.coherent.numbered a i).listed
-      (subst (λ n. (x : ℕ) → IsIn x (climb (parent_space new.spaces) 33 n) → (t : Space) × (space_at new.spaces x ≡ Some t)) same (sound_new.coherent.numbered b j).listed)
+      climb_both old.spaces new.spaces (λ id s t here there. (keeps id s t here there).0) 33 a.space (sound.coherent.numbered a (used_by_row old a i)).listed
+      (subst (λ n. (x : ℕ) → IsIn x (climb (parent_space new.spaces) 33 n) → (t : Space) × (space_at new.spaces x ≡ Some t)) same (sound_new.coherent.numbered b (used_by_row new b j)).listed)
 
   -- what is around a name is there behind, where a name of that namespace is used
   around : (a b : Name) → IsIn a (names_in_use old.rows) → IsIn b (names_in_use new.rows) → b.space ≡ a.space → (x : ℕ) → IsIn x (path_up old.spaces a.space)
       → (t : Space) × (space_at new.spaces x ≡ Some t)
   around a b i j same x on =
-      (sound_new.coherent.numbered b j).listed x (subst (λ n. IsIn x (path_up new.spaces n)) (sym same) (subst (IsIn x) (sym (path_same a b i j same)) on))
+      (sound_new.coherent.numbered b (used_by_row new b j)).listed x (subst (λ n. IsIn x (path_up new.spaces n)) (sym same) (subst (IsIn x) (sym (path_same a b i j same)) on))
 
   -- so where a row stays, all that is around its names stays
   stays : (row : Row) → IsIn row old.rows → StaysAs new.rows row → (a : Name) → Uses row a → (x : ℕ) → IsIn x (path_up old.spaces a.space)
@@ -222,7 +223,7 @@ module _ (old new : State) (sound : IsSound old) (sound_new : IsSound new) (keep
       go : (b : Bool) → s.fallen ≡ b → (t : Space) × (space_at new.spaces (suc n) ≡ Some t)
       go true is =
           let a = sound.named s h.0 is in
-          let u = user_of_name old.rows a.0 a.2 in
+          let u = user_of_name old.rows a.0 (subst (IsIn a.0) (in_use-rows old alone) a.2) in
           let on : IsIn (suc n) (path_up old.spaces a.0.space) = subst (λ x. IsIn x (path_up old.spaces a.0.space)) h.1 (number-within old.spaces a.0 s.id a.1 a.3).0 in
           stays u.0 u.1 (rest_stays (suc n) off (omega arith) u.0 u.1 a.0 u.2 on) a.0 u.2 (suc n) on
       go false is =
@@ -236,7 +237,7 @@ module _ (old new : State) (sound : IsSound old) (sound_new : IsSound new) (keep
     where
       seen : (n : ℕ) × (number new.spaces row.name s.id ≡ Some n)
       seen =
-          number-on_path new.spaces row.name s.id (sound_new.coherent.numbered row.name (own_name_in_use new.rows row j)).one_each
+          number-on_path new.spaces row.name s.id (sound_new.coherent.numbered row.name (own_in_use new row j)).one_each
           (subst (λ x. IsIn s.id (path_up new.spaces x)) (sym own) (path_first new.spaces s.id))
 
       go : (b : Bool) → s.fallen ≡ b → s.fallen ≡ false

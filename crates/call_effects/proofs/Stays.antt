@@ -1,9 +1,10 @@
 -- Who stays as he was: each row that a call does not touch.
-use Rattle.model_laws.proofs.Words.{◌≡◌, ◌==◌, ◌&&◌, ℕ, true, false, List, map, Option, Some, refl, ap, ◌∙◌, subst, option_map, option_map_or, if◌then◌else◌, cond_both, and_from, and_parts, eq-eqb, eqb-true, false_from_ne_true, Call, Row, Name, Zombie, Exited, IsIn, State, Outcome, sweep, with_row, on_row, root_number, is_live, is_parent, same_name, row_at, live_row, row_after_exit, rows_after_exit, new_parent, rehome, without_control, with_control, with_limit, set_executed, set_home, set_children_space, set_mark, IsSound, IsCoherent}
+use Rattle.model_laws.proofs.Words.{◌≡◌, ◌==◌, ◌&&◌, ℕ, true, false, List, map, Option, Some, refl, ap, ◌∙◌, subst, option_map, option_map_or, if◌then◌else◌, cond_both, and_from, and_parts, eq-eqb, eqb-true, false_from_ne_true, Call, Row, Name, Zombie, Exited, IsIn, State, Outcome, sweep, with_row, on_row, root_number, is_live, is_parent, same_name, row_at, live_row, row_after_exit, rows_after_exit, new_parent, rehome, without_control, with_control, with_limit, set_children_space, set_mark, IsSound, IsCoherent}
+use Rattle.pid_types.specs.Changes.{after_exec, set_executed, set_home, with_home}
 use Rattle.model_laws.proofs.Ground.{IsIn-map, row_at-listed, find-only, unique_key, same_name-true}
 use Rattle.model_laws.proofs.Ancestry.{root_init_row}
 use Rattle.model_laws.proofs.Inserts.{IsIn-insert_old}
-use Rattle.model_laws.proofs.Calls.{Comes, still, born, born_first, executed, control_made, control_removed, limit_set, moved, joined, marked}
+use Rattle.model_laws.proofs.Calls.{Comes, still, born, born_first, executed, control_made, control_removed, limit_set, moved, joined, joined_other, marked}
 use Rattle.translate.specs.Relations.{relations_of, relations_at}
 use Rattle.call_effects.specs.Touched.{is_touching}
 
@@ -50,17 +51,18 @@ other task change rows row i differs = record {
 -- where the call touches nobody, all rows stay
 pub all_stay : (state : State) (stamp : ℕ) (call : Call) (o : Outcome) → Comes state stamp call o → is_touching call ≡ false → (row : Row) → IsIn row state.rows
     → Stays o.state.rows row
-unfolding sweep with_row with_control without_control with_limit
+unfolding sweep with_row with_control without_control with_limit after_exec with_home
 all_stay state stamp call o (still _ reply answer) plain row i = itself state.rows row i
 all_stay state stamp call o (born n new_space caller _ found stands may) plain row i = itself _ row (IsIn-insert_old _ state.rows row i)
 all_stay state stamp call o (born_first n caller found stands shallow here may) plain row i = itself _ row (IsIn-insert_old _ state.rows row i)
-all_stay state stamp call o (executed n caller found) plain row i = aside caller.name set_executed (λ r. refl) (λ r. refl) state.rows row i
+all_stay state stamp call o (executed n caller found) plain row i = aside caller.name (set_executed state n) (λ r. refl) (λ r. refl) state.rows row i
 all_stay state stamp call o (control_made parent c found shallow) plain row i = itself state.rows row i
 all_stay state stamp call o (control_removed id parent c found under idle) plain row i =
     record { now = rehome id parent row; there = IsIn-map (rehome id parent) row state.rows i; name = refl; same = refl }
 all_stay state stamp call o (limit_set id parent limit c found under good) plain row i = itself state.rows row i
-all_stay state stamp call o (moved n id task c found there) plain row i = aside task.name (set_home id) (λ r. refl) (λ r. refl) state.rows row i
-all_stay state stamp call o (joined n target caller row_of found there live) plain row i =
+all_stay state stamp call o (moved n id task c found there) plain row i = aside task.name (set_home state id) (λ r. refl) (λ r. refl) state.rows row i
+all_stay state stamp call o (joined_other n target caller row_of t found there live some) plain row i = itself state.rows row i
+all_stay state stamp call o (joined n target caller row_of found there live none) plain row i =
     aside caller.name (set_children_space row_of.name.space) (λ r. refl) (λ r. refl) state.rows row i
 all_stay state stamp call o (marked n on caller found) plain row i = aside caller.name (set_mark on) (λ r. refl) (λ r. refl) state.rows row i
 all_stay state stamp call o _ plain row i = absurd (cc)

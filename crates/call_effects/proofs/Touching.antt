@@ -1,6 +1,10 @@
 -- Whom each call may touch.
 use Rattle.model_laws.proofs.Words.{◌≡◌, ◌==◌, ◌<◌, ℕ, zero, suc, ℤ, pos, negsuc, Bool, true, false, not, List, [], ◌∷◌, filter, Option, Some, None, refl, sym, ap, ◌∙◌, subst, inl, inr, arith, is_some, option_map, option_and_then, option_map_or, if◌then◌else◌, false_from_ne_true, not_from_false, ne_eqb, Call, Fork, GetPid, NsPid, Exec, Exit, Wait, GetPpid, SetPgid, SetSid, MakeControl, RemoveControl, SetLimit, Move, Count, GetPgid, GetSid, Next, Join, SetSubreaper, Which, Row, Name, Ended, Done, Reaped, IsIn, State, Outcome, sweep, without_row, root_number, number, number_or_zero, is_live, is_member, is_parent, is_numbered, same_name, row_at, live_row, task_numbered, self_or_task, parent_number, step, is_init, rows_after_exit, IsSound, IsBelow, set_group, start_session, with_row, matching, ended_children, unwrap_or}
-use Rattle.model_laws.proofs.Ground.{IsIn-filter, IsIn-from_filter, row_at-listed, live_row-Some, unique_key, same_name-true, is_parent-true, is_numbered-from, is_numbered-true, find-Some, number-within, number-on_path, own_name_in_use, task_at-own}
+use Rattle.model_laws.proofs.Ground.{IsIn-filter, IsIn-from_filter, row_at-listed, live_row-Some, unique_key, same_name-true, is_parent-true, is_numbered-from, is_numbered-true, number-within, number-on_path, own_in_use, task_at-own}
+use Rattle.model_laws.proofs.Trees.{process_numbered-Some}
+use Rattle.pid_types.specs.Threads.{caller_of, process_numbered}
+use Rattle.pid_types.specs.Exit.{handed_over}
+use Rattle.task_table.proofs.Alone.{caller-live, process-task}
 use Rattle.model_laws.proofs.Lists.{IsIn-filter_map, IsIn-from_filter_map}
 use Rattle.model_laws.proofs.Ancestry.{number-root_of_row, parent_number-at, root_init_row, row_far, top_row, Far}
 use Rattle.model_laws.proofs.Calls.{Comes, still, fell, handed_on, waits, reaped, grouped, led, no_answer}
@@ -26,10 +30,10 @@ use Rattle.call_effects.proofs.Lists.{once_rising}
 use Rattle.call_effects.proofs.Stays.{Stays, found, itself, other, all_stay, bystander, live_row-listed}
 
 -- the exit of a task that comes to more than a refusal has a caller
-exit_caller : (state : State) (stamp n status : ℕ) → (step state stamp (Exit n status)).reply ≡ Done → (caller : Row) × (live_row state.rows n ≡ Some caller)
+exit_caller : (state : State) (stamp n status : ℕ) → (step state stamp (Exit n status)).reply ≡ Done → (caller : Row) × (caller_of state n ≡ Some caller)
 exit_caller state stamp n status done = go _ (step_comes state stamp (Exit n status)) done
   where
-    go : (o : Outcome) → Comes state stamp (Exit n status) o → o.reply ≡ Done → (caller : Row) × (live_row state.rows n ≡ Some caller)
+    go : (o : Outcome) → Comes state stamp (Exit n status) o → o.reply ≡ Done → (caller : Row) × (caller_of state n ≡ Some caller)
     go o (still _ reply answer) told = absurd (no_answer reply Done answer refl told)
     go o (fell _ _ caller there deep one) told = (caller, there)
     go o (handed_on _ _ caller there none) told = (caller, there)
@@ -63,7 +67,11 @@ no_own_parent f top zero n own far = (let z : f n ≡ None = ap f far ∙ top in
 no_own_parent f top (suc k) n own far =
     let same : far.0 ≡ n = (let z : Some far.0 ≡ Some n = sym far.1 ∙ own in cc) in no_own_parent f top k n own (subst (Far f k) same far.2)
 
-module _ (state : State) (stamp : ℕ) (sound : IsSound state) (below : IsBelow stamp state) where
+-- in a state without threads, so that a live task calls by its own number
+module _ (state : State) (stamp : ℕ) (sound : IsSound state) (below : IsBelow stamp state) (threads : state.threads ≡ []) (left : state.left ≡ []) where
+  as_live : (n : ℕ) (row : Row) → caller_of state n ≡ Some row → live_row state.rows n ≡ Some row
+  as_live n row calls = sym (caller-live state threads left n) ∙ calls
+
   -- the state after the call
   abbrev after : Call → State
   after call = (step state stamp call).state
@@ -89,14 +97,14 @@ module _ (state : State) (stamp : ℕ) (sound : IsSound state) (below : IsBelow 
 
   -- numbers are above 0
   above_zero : (row : Row) (s m : ℕ) → IsIn row state.rows → number state.spaces row.name s ≡ Some m → 0 < m
-  above_zero row s m i e = ((sound.coherent.numbered row.name (own_name_in_use state.rows row i)).in_range m (number-within state.spaces row.name s m e).1).0
+  above_zero row s m i e = ((sound.coherent.numbered row.name (own_in_use state row i)).in_range m (number-within state.spaces row.name s m e).1).0
 
   -- the caller means a task by its number
   meant : (caller row : Row) (m : ℕ) → IsIn row state.rows → number state.spaces row.name caller.name.space ≡ Some m → self_or_task state caller m ≡ Some row
   meant caller row m i e =
       let some = above_zero row caller.name.space m i e in
-      ap (λ b. if b then Some caller else task_numbered state caller.name.space m) (ne_eqb m 0 (λ z. omega (arith, z, some)))
-      ∙ task_at-own state sound.coherent row i caller.name.space m e
+      ap (λ b. if b then Some caller else process_numbered state caller.name.space m) (ne_eqb m 0 (λ z. omega (arith, z, some)))
+      ∙ process-task state threads caller.name.space m ∙ task_at-own state sound.coherent row i caller.name.space m e
 
   -- nothing is touched where all stay
   pub untouched : (call : Call) → is_touching call ≡ false → Touches state (after call) []
@@ -113,7 +121,6 @@ module _ (state : State) (stamp : ℕ) (sound : IsSound state) (below : IsBelow 
   -- one task is touched, or none
   one_touched : (call : Call) (n m : ℕ) (o : Option ℕ) → o ≡ root_seen state n m
       → ((row : Row) → IsIn row state.rows → (IsIn (root_number row.name) (none_or_one o) → ⊥) → Stays (after call).rows row) → Touches state (after call) (none_or_one o)
-  unfolding task_numbered
   one_touched call n m None is rest = record { rising = tt; there = λ k i. absurd i; rest = λ row i none. stays call row (rest row i none) }
   one_touched call n m (Some k) is rest = record {
     rising = (λ j i. absurd i, tt);
@@ -121,9 +128,6 @@ module _ (state : State) (stamp : ℕ) (sound : IsSound state) (below : IsBelow 
     rest = λ row i none. stays call row (rest row i none);
   }
     where
-      task_there : (s x : ℕ) (row : Row) → task_numbered state s x ≡ Some row → IsIn row state.rows
-      task_there s x row e = (find-Some (λ (r : Row). is_numbered state.spaces r.name s x) state.rows row e).0
-
       seen_there : (n m k : ℕ) → root_seen state n m ≡ Some k → is_some (relations_at state.rows k) ≡ true
       seen_there n m k e = go (live_row state.rows n) refl e
         where
@@ -136,10 +140,10 @@ module _ (state : State) (stamp : ℕ) (sound : IsSound state) (below : IsBelow 
                   → is_some (relations_at state.rows k) ≡ true
               task b at_zero None on e = absurd (cc)
               task true at_zero (Some row) on e =
-                  let same : caller ≡ row = (let z : Some caller ≡ Some row = sym (ap (λ b. if b then Some caller else task_numbered state caller.name.space m) at_zero) ∙ on in cc) in
+                  let same : caller ≡ row = (let z : Some caller ≡ Some row = sym (ap (λ b. if b then Some caller else process_numbered state caller.name.space m) at_zero) ∙ on in cc) in
                   row_there row (subst (λ r. IsIn r state.rows) same (live_row-Some state.rows n caller at).0) k (let z : root_number row.name ≡ k = cc in z)
               task false at_zero (Some row) on e =
-                  row_there row (task_there caller.name.space m row (sym (ap (λ b. if b then Some caller else task_numbered state caller.name.space m) at_zero) ∙ on)) k
+                  row_there row (process_numbered-Some state caller.name.space m row (sym (ap (λ b. if b then Some caller else process_numbered state caller.name.space m) at_zero) ∙ on)) k
                   (let z : root_number row.name ≡ k = cc in z)
 
   -- ---- the root init asks
@@ -213,8 +217,8 @@ module _ (state : State) (stamp : ℕ) (sound : IsSound state) (below : IsBelow 
   touches_members n status done own ns lists =
       let c = exit_caller state stamp n status done in
       let init : Row = c.0 in
-      let i = live_row-Some state.rows n init c.1 in
-      let falls : HasFallen state (after (Exit n status)) init status = exit_of_init_falls state stamp n status init sound c.1 (own init c.1) done in
+      let i = live_row-Some state.rows n init (as_live n init c.1) in
+      let falls : HasFallen state (after (Exit n status)) init status = exit_of_init_falls state stamp n status init sound c.1 (own init (as_live n init c.1)) done in
       let listed = subst (λ all. AreListedFrom all 0 ns) (ap (λ m. numbers_asked state top (Namespace Subtree) m) (sym i.1) ∙ members init i.0) (top_asks (Namespace Subtree) n ns lists) in
       record {
         rising = listed.rising;
@@ -281,13 +285,13 @@ module _ (state : State) (stamp : ℕ) (sound : IsSound state) (below : IsBelow 
 
   pub touches_children : (n status : ℕ) → (step state stamp (Exit n status)).reply ≡ Done → ((row : Row) → live_row state.rows n ≡ Some row → is_init state row ≡ false)
       → (xs ys : List ℕ) → IsRootList state (Belonging Task) n xs → IsPermutation (n ∷ xs) ys → IsSorted nat_cmp ys → Touches state (after (Exit n status)) ys
-  unfolding sweep
+  unfolding sweep handed_over
   touches_children n status done own xs ys lists perm sorted = go _ (step_comes state stamp (Exit n status)) refl done
     where
       go : (o : Outcome) → Comes state stamp (Exit n status) o → step state stamp (Exit n status) ≡ o → o.reply ≡ Done → Touches state (after (Exit n status)) ys
       go o (still _ reply answer) same told = absurd (no_answer reply Done answer refl told)
-      go o (fell _ _ caller there deep one) same told = absurd (let z = own caller there in cc)
-      go o (handed_on _ _ caller there none) same told = touched n status xs ys lists perm sorted caller there (ap (λ (o : Outcome). o.state.rows) same)
+      go o (fell _ _ caller there deep one) same told = absurd (let z = own caller (as_live n caller there) in cc)
+      go o (handed_on _ _ caller there none) same told = touched n status xs ys lists perm sorted caller (as_live n caller there) (ap (λ (o : Outcome). o.state.rows) same)
 
   -- ---- a wait, and moves to another group or session
 
@@ -318,13 +322,13 @@ module _ (state : State) (stamp : ℕ) (sound : IsSound state) (below : IsBelow 
 
           seen : (m : ℕ) × (number state.spaces gone.name caller.name.space ≡ Some m)
           seen =
-              number-on_path state.spaces gone.name caller.name.space (sound.coherent.numbered gone.name (own_name_in_use state.rows gone g)).one_each
+              number-on_path state.spaces gone.name caller.name.space (sound.coherent.numbered gone.name (own_in_use state gone g)).one_each
               ((sound.coherent.parents gone g).good caller.name child_of_caller).around
 
           here : o ≡ Some (root_number gone.name)
           here =
               let m : seen.0 ≡ child = (let z = ap (λ p. unwrap_or p 0) seen.1 in let y = number-is in cc) in
-              is ∙ ap (λ c. option_and_then (λ (c : Row). option_map (λ (r : Row). root_number r.name) (self_or_task state c child)) c) there
+              is ∙ ap (λ c. option_and_then (λ (c : Row). option_map (λ (r : Row). root_number r.name) (self_or_task state c child)) c) (as_live n caller there)
               ∙ ap (option_map (λ (r : Row). root_number r.name)) (meant caller gone child g (subst (λ k. number state.spaces gone.name caller.name.space ≡ Some k) m seen.1))
 
   -- any other wait leaves the state
@@ -343,14 +347,14 @@ module _ (state : State) (stamp : ℕ) (sound : IsSound state) (below : IsBelow 
     where
       go : (q : Outcome) → Comes state stamp (SetPgid n (negsuc m) pgid) q → q.state ≡ state
       go q (still _ reply answer) = refl
-      go q (grouped _ _ _ caller target group there aimed same own found) = absurd (cc)
+      go q (grouped _ _ _ caller target group there aimed leads same own found) = absurd (cc)
   touches_target n (pos m) pgid o is = one_touched (SetPgid n (pos m) pgid) n m o is (λ row i off. go _ (step_comes state stamp (SetPgid n (pos m) pgid)) row i off)
     where
       go : (q : Outcome) → Comes state stamp (SetPgid n (pos m) pgid) q → (row : Row) → IsIn row state.rows → (IsIn (root_number row.name) (none_or_one o) → ⊥) → Stays q.state.rows row
       go q (still _ reply answer) row i off = itself state.rows row i
-      go q (grouped _ _ _ caller target group there aimed same own found) row i off =
+      go q (grouped _ _ _ caller target group there aimed leads same own found) row i off =
           let here : o ≡ Some (root_number target.name) =
-          is ∙ ap (λ c. option_and_then (λ (c : Row). option_map (λ (r : Row). root_number r.name) (self_or_task state c m)) c) there
+          is ∙ ap (λ c. option_and_then (λ (c : Row). option_map (λ (r : Row). root_number r.name) (self_or_task state c m)) c) (as_live n caller there)
           ∙ ap (option_map (λ (r : Row). root_number r.name)) aimed in
           other target (set_group group) state.rows row i (λ e. off (subst (λ p. IsIn (root_number row.name) (none_or_one p)) (sym here) (inl e)))
 
@@ -363,5 +367,5 @@ module _ (state : State) (stamp : ℕ) (sound : IsSound state) (below : IsBelow 
       go q (still _ reply answer) row i off = itself state.rows row i
       go q (led _ caller there none) row i off =
           let here : o ≡ Some (root_number caller.name) =
-          is ∙ ap (λ c. option_and_then (λ (c : Row). option_map (λ (r : Row). root_number r.name) (self_or_task state c 0)) c) there in
+          is ∙ ap (λ c. option_and_then (λ (c : Row). option_map (λ (r : Row). root_number r.name) (self_or_task state c 0)) c) (as_live n caller there) in
           other caller start_session state.rows row i (λ e. off (subst (λ p. IsIn (root_number row.name) (none_or_one p)) (sym here) (inl e)))

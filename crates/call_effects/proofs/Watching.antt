@@ -22,18 +22,18 @@ use Rattle.call_effects.proofs.Lists.{few_of}
 use Rattle.call_effects.proofs.Members.{members_may_end}
 use Rattle.call_effects.proofs.Standing.{listed_there, spaces_may_end, stands_still}
 
-pub watches : (old new : State) (w : Watching) (numbers own ids : List ℕ) → IsSound old → IsSound new → Touches old new numbers → KeepsParents old new
+pub watches : (old new : State) (w : Watching) (numbers own ids : List ℕ) → IsSound old → old.threads ≡ [] → IsSound new → Touches old new numbers → KeepsParents old new
     → AreWatched old numbers w.tasks → AreListedFrom (map (owner_by Group) w.tasks) 0 w.groups → AreListedFrom (map (owner_by Session) w.tasks) 0 w.sessions
     → AreListedFrom (flat_map watched_spaces w.tasks) 0 own → AreListedFrom (flat_map (inner_path old) own) 0 ids → AreWatchedSpaces old ids w.spaces → Watches old new w
-watches old new w numbers own ids sound sound_new touches keeps watched groups sessions owns listed spaces = record {
+watches old new w numbers own ids sound alone sound_new touches keeps watched groups sessions owns listed spaces = record {
   numbers = numbers;
   touches = touches;
   watched = watched;
   groups = members_may_end old new sound.coherent.rows_rise numbers w.tasks watched touches Group w.groups groups;
   sessions = members_may_end old new sound.coherent.rows_rise numbers w.tasks watched touches Session w.sessions sessions;
   ids = ids;
-  spaces = spaces_may_end old new sound sound_new keeps numbers w.tasks touches watched own ids owns listed;
-  standing = stands_still old new sound sound_new keeps numbers w.tasks touches watched own ids owns listed;
+  spaces = spaces_may_end old new sound sound_new keeps numbers w.tasks touches watched own ids owns listed alone;
+  standing = stands_still old new sound sound_new keeps numbers w.tasks touches watched own ids owns listed alone;
   watched_spaces = spaces;
 }
 
@@ -80,10 +80,10 @@ few state w numbers own ids sound rise there watched groups sessions owns listed
     omega (arith, tasks, around, a, b, groups, sessions)
 
 -- where no task is touched nothing is watched
-pub watches_none : (old new : State) → IsSound old → IsSound new → Touches old new [] → KeepsParents old new
+pub watches_none : (old new : State) → IsSound old → old.threads ≡ [] → IsSound new → Touches old new [] → KeepsParents old new
     → Watches old new (record { tasks = []; groups = []; sessions = []; spaces = [] })
-watches_none old new sound sound_new touches keeps =
-    watches old new (record { tasks = []; groups = []; sessions = []; spaces = [] }) [] [] [] sound sound_new touches keeps
+watches_none old new sound alone sound_new touches keeps =
+    watches old new (record { tasks = []; groups = []; sessions = []; spaces = [] }) [] [] [] sound alone sound_new touches keeps
     (record { numbered = refl; before = λ w on. absurd on }) nobody nobody nobody nobody (record { numbered = refl; before = λ w on. absurd on })
   where
     nobody : AreListedFrom [] 0 []

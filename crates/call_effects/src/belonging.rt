@@ -47,6 +47,7 @@ fn any_member(table: &PidTable, kind: Kind, number: Pid) -> bool
     ensures { result ≡ has_members_as kind table.now number }
 {
     table.laws();
+    table.no_threads();
     let mut reply = Reply::Done;
     let next = Call::Next {
         caller: ROOT_INIT,

@@ -102,6 +102,7 @@ impl Touched {
         ensures few { IfOk result (λ w. most_of w ≤ most_in table.now) }
     {
         table.laws();
+        table.no_threads();
         let tasks = read_all(table, numbers)?;
         let groups = list_owners(table, Kind::Group, &tasks)?;
         let sessions = list_owners(table, Kind::Session, &tasks)?;
@@ -135,6 +136,7 @@ impl Touched {
         ensures err { OnErr result (IsTrue (is_touching call)) }
     {
         table.laws();
+        table.no_threads();
         if !may_touch(call) {
             return Ok(Touched::none(table));
         }

@@ -89,6 +89,7 @@ fn list_from_root(table: &PidTable, whom: Whom, number: Pid) -> Result<Vec<Pid>,
 fn is_own_init(table: &PidTable, caller: Pid) -> bool
     ensures { (row : Row) → live_row table.now.rows caller ≡ Some row → result ≡ is_init table.now row }
 {
+    table.no_threads();
     let mut reply = Reply::Done;
     table.ask(Call::GetPid { caller }, &mut reply);
     is_number(1, &reply)
@@ -107,6 +108,7 @@ fn touched_by_exit(
     ensures just { IfOk result (λ r. IsTouching table.now stamp (calls.Exit caller status) r.items) }
 {
     table.laws();
+    table.no_threads();
     if !would_be_done(table, stamp, Call::Exit { caller, status }) {
         return Ok(Vec::new(table.allocator()));
     }
@@ -133,6 +135,7 @@ fn touched_by_wait(
     ensures just { IfOk result (λ r. IsTouching table.now stamp (calls.Wait caller which) r.items) }
 {
     table.laws();
+    table.no_threads();
     let mut reply = Reply::Done;
     table.would(stamp, Call::Wait { caller, which }, &mut reply);
     match reply {
@@ -155,6 +158,7 @@ fn touched_by_setpgid(
     ensures just { IfOk result (λ r. IsTouching table.now stamp (calls.SetPgid caller pid pgid) r.items) }
 {
     table.laws();
+    table.no_threads();
     list_one(table, target_root(table, caller, pid))
 }
 
@@ -165,6 +169,7 @@ fn touched_by_setsid(table: &PidTable, stamp: u64, caller: Pid) -> Result<Vec<Pi
     ensures just { IfOk result (λ r. IsTouching table.now stamp (calls.SetSid caller) r.items) }
 {
     table.laws();
+    table.no_threads();
     list_one(table, root_of(table, caller, 0))
 }
 
@@ -175,6 +180,7 @@ pub(crate) fn touched_by(table: &PidTable, stamp: u64, call: Call) -> Result<Vec
     ensures just { IfOk result (λ r. IsTouching table.now stamp call r.items) }
 {
     table.laws();
+    table.no_threads();
     match call {
         Call::Exit { caller, status } => touched_by_exit(table, stamp, caller, status),
         Call::Wait { caller, which } => touched_by_wait(table, stamp, caller, which),

@@ -1,5 +1,5 @@
 -- What a new task makes of the model's state.
-use Rattle.std.proofs.Common.{◌≡◌, inl, inr, ℕ, false, List, map, Some, IsSome, is_some, refl, sym, ap, subst, ◌∙◌, option_map, unwrap_or}
+use Rattle.std.proofs.Common.{◌≡◌, inl, inr, ℕ, false, List, [], map, Some, IsSome, is_some, refl, sym, ap, subst, ◌∙◌, option_map, unwrap_or}
 use Rattle.std.specs.Option.{option_map_or}
 use Rattle.std.proofs.lemmas.Bool.{cases_eq}
 use Rattle.pid_types.specs.declared.plain.Life.TheVariants.{Live}
@@ -51,14 +51,14 @@ module _ (s s' : Store) (l : IsLawful s) (l' : IsLawful s') (kin : HasParents s)
         (ap (λ (x : Task). x.children_space) made) (ap (λ (x : Task). x.subreaper) made)
 
     -- the state with the child
-    pub state-born : planned.rows ≡ (state_of s).rows → planned.controls ≡ s.charges.controls → planned.pid_max ≡ s.numbering.pid_max
+    pub state-born : planned.rows ≡ (state_of s).rows → planned.threads ≡ [] → planned.left ≡ [] → planned.controls ≡ s.charges.controls → planned.pid_max ≡ s.numbering.pid_max
         → with_cursors planned (path_up planned.spaces t) ≡ spaces_of s'.numbering
         → sweep (with_child planned (child_of planned (row_of s from caller) t) (path_up planned.spaces t)) ≡ state_of s'
-    state-born rows controls bound spaces =
+    state-born rows threads left controls bound spaces =
         swept s'.numbering l'.numbering s' l' (IsLess-same s'.numbering l'.numbering) (with_child planned (child_of planned (row_of s from caller) t) (path_up planned.spaces t))
         (ap (insert_row (child_of planned (row_of s from caller) t)) rows ∙ ap (λ r. insert_row r (state_of s).rows) (sym row_born)
         ∙ sym (rows-insert s s' l l' begun.bound key task begun.fresh.0 begun.fresh.1 begun.begun (root_kept comes) (other_rows comes)))
-        spaces (controls ∙ sym begun.home.controls) (bound ∙ sym begun.bound)
+        threads left spaces (controls ∙ sym begun.home.controls) (bound ∙ sym begun.bound)
 
     -- and the reply
     pub reply-born : with_cursors planned (path_up planned.spaces t) ≡ spaces_of s'.numbering → (i : ℕ)

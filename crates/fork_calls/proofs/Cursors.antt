@@ -22,6 +22,7 @@ use Rattle.task_table.proofs.Newborn.{KeepsNamespaces}
 pub IsPlanned-own : (s : Store) → IsLawful s → IsPlanned s (state_of s)
 IsPlanned-own s l = record {
   rows = refl;
+  threads = refl;
   bound = refl;
   numbers = λ k sp i u at e. number-is_key s.numbering l.numbering sp i k u e at;
   cursors = λ sp i t at e.

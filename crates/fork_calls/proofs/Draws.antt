@@ -6,7 +6,7 @@ use Rattle.pid_types.specs.declared.plain.Name.{Name}
 use Rattle.pid_types.specs.Chains.{contains}
 use Rattle.pid_types.specs.Membership.{IsIn}
 use Rattle.pid_types.specs.State.{State, root_name}
-use Rattle.pid_types.specs.Names.{beside, names_in_use, number}
+use Rattle.pid_types.specs.Names.{beside, in_use, names_in_use, number}
 use Rattle.pid_types.specs.Draw.{draw, cursor_of}
 use Rattle.pid_types.specs.Fork.{drawn}
 use Rattle.model_laws.proofs.Lists.{find-map, find-same}
@@ -17,6 +17,7 @@ use Rattle.task_table.specs.View.{name_at, state_of}
 use Rattle.task_table.specs.Lawful.{IsLawful}
 use Rattle.task_table.proofs.Keys.{id_for, path-there}
 use Rattle.task_table.proofs.InUse.{used-from, used-in}
+use Rattle.task_table.proofs.Alone.{in_use-rows}
 
 place_of : (xs : List Name) (a : Name) → IsIn a xs → (x : ℕ) × (x < length xs) × (get_or xs x root_name ≡ a)
 place_of [] a i = absurd i
@@ -28,9 +29,10 @@ at_place [] x lt = absurd (omega (arith, lt))
 at_place (y ∷ ys) zero lt = inl refl
 at_place (y ∷ ys) (suc x) lt = inr (at_place ys x (omega (arith, lt)))
 
--- a state with a store's rows, in which its identifiers have their numbers and its namespaces their cursors
+-- a state with a store's rows, and no threads, in which its identifiers have their numbers and its namespaces their cursors
 pub record IsPlanned (s : Store) (planned : State) : Type 0 where
   pub rows : planned.rows ≡ (state_of s).rows
+  pub threads : planned.threads ≡ []
   pub bound : planned.pid_max ≡ s.numbering.pid_max
   pub numbers : (k sp i : ℕ) (u : Identifier) → identifier_at s.numbering k ≡ Some u → id_at s.numbering sp ≡ Some i → number planned.spaces (name_at s.numbering k) i ≡ number_of s.numbering k sp
   pub cursors : (sp i : ℕ) (t : Namespace) → namespace_at s.numbering sp ≡ Some t → id_at s.numbering sp ≡ Some i → cursor_of planned i ≡ t.cursor
@@ -43,8 +45,8 @@ module _ (s : Store) (l : IsLawful s) (planned : State) (p : IsPlanned s planned
       go None is e = absurd (cc)
       go (Some t) is e = (t, is)
 
-  names_are : names_in_use planned.rows ≡ names_in_use (state_of s).rows
-  names_are = ap names_in_use p.rows
+  names_are : in_use planned ≡ in_use (state_of s)
+  names_are = in_use-rows planned p.threads ∙ ap names_in_use p.rows
 
   -- a namespace gives what the model draws
   pub draw-key : (sp i : ℕ) → id_at s.numbering sp ≡ Some i → draw planned i ≡ draw_in s.numbering sp
@@ -52,10 +54,10 @@ module _ (s : Store) (l : IsLawful s) (planned : State) (p : IsPlanned s planned
       let t = there sp i e in
       draw-is planned s.numbering i sp t.0 t.1 p.bound (p.cursors sp i t.0 t.1 e)
       (λ k u at.
-      let x = place_of (names_in_use planned.rows) (name_at s.numbering k) (subst (IsIn (name_at s.numbering k)) (sym names_are) (used-in s l k u at)) in
+      let x = place_of (in_use planned) (name_at s.numbering k) (subst (IsIn (name_at s.numbering k)) (sym names_are) (used-in s l k u at)) in
       (x.0, x.1, ap (λ name. number planned.spaces name i) x.2 ∙ p.numbers k sp i u at e))
       (λ x lt.
-      let k = used-from s l (get_or (names_in_use planned.rows) x root_name) (subst (IsIn (get_or (names_in_use planned.rows) x root_name)) names_are (at_place (names_in_use planned.rows) x lt)) in
+      let k = used-from s l (get_or (in_use planned) x root_name) (subst (IsIn (get_or (in_use planned) x root_name)) names_are (at_place (in_use planned) x lt)) in
       (k.0, ap (λ name. number planned.spaces name i) k.3 ∙ p.numbers k.0 sp i k.1 k.2 e))
 
   -- and along a path

@@ -11,7 +11,7 @@ use Rattle.pid_types.specs.Names.{path_up, number_or_zero, root_number}
 use Rattle.pid_types.specs.Chains.{climb}
 use Rattle.pid_types.specs.Outcome.{unless_found}
 use Rattle.pid_types.specs.Fork.{drawn, child_of, forked, no_room}
-use Rattle.model_laws.proofs.Inserts.{number-child_of_at}
+use Rattle.model_laws.proofs.Inserts.{number-new_name_at}
 use Rattle.pid_numbers.specs.Numbering.{id_at, draw_in}
 use Rattle.task_tree.specs.declared.Task.{Task}
 use Rattle.task_tree.specs.Tree.{task_at}
@@ -42,7 +42,7 @@ module _ (s : Store) (l : IsLawful s) (planned : State) (is : IsPlanned s planne
   -- the child's number to the caller is what the caller's namespace gives
   child : unwrap_or (draw_in s.numbering own) 0 ≡ number_or_zero planned.spaces (child_of planned caller t).name caller.name.space
   unfolding drawn
-  child = ap (λ o. unwrap_or o 0) (sym (draw-key s l planned is own caller.name.space id)) ∙ sym (ap (λ o. unwrap_or o 0) (number-child_of_at planned caller t caller.name.space on))
+  child = ap (λ o. unwrap_or o 0) (sym (draw-key s l planned is own caller.name.space id)) ∙ sym (ap (λ o. unwrap_or o 0) (number-new_name_at planned t caller.name.space on))
 
   -- its number in the root is the outermost
   root : slice_index numbers (length numbers - 1) ≡ root_number (child_of planned caller t).name

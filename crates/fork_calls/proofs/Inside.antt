@@ -75,6 +75,7 @@ module _ (s : Store) (l : IsLawful s) (w : IsWhole s) (stamp : ℕ) (below : IsB
   pub IsPlanned-new : IsPlanned s planned
   IsPlanned-new = record {
     rows = refl;
+    threads = refl;
     bound = refl;
     numbers = λ k sp i u e at.
         kept.number_old (state_of s) coherent stamp below p stands shallow (name_at s.numbering k) (used-in s l k u e) i

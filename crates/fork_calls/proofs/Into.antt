@@ -45,7 +45,7 @@ module _ (s s' : Store) (l : IsLawful s) (l' : IsLawful s') (kin : HasParents s)
 
   pub into-state : state_of s' ≡ (forked_into (state_of s) (state_of s) (row_of s from caller) t).state
   into-state = sym (ap (λ o. (unless_found (state_of s) o (λ r. r) (forked (state_of s) (row_of s from caller) t)).state) room
-      ∙ state-born s s' l l' kin key from task space numbers begun keeps caller at t (id-after space t id) (state_of s) drew made refl refl refl cursors)
+      ∙ state-born s s' l l' kin key from task space numbers begun keeps caller at t (id-after space t id) (state_of s) drew made refl refl refl refl refl cursors)
 
   pub into-reply : (i : ℕ) → i ≡ (row_of s from caller).name.space
       → Forked (number_or_zero (spaces_of s'.numbering) (name_at s'.numbering key) i) (root_number (name_at s'.numbering key)) ≡ (forked_into (state_of s) (state_of s) (row_of s from caller) t).reply

@@ -12,7 +12,8 @@ controls-shown state (c ∷ controls) = ap (λ cs. c ∷ cs) (controls-shown sta
 
 -- the state that a snapshot of a state shows is that state
 pub state_of-shows : (state : State) (plain : Plain) → Shows state plain → state_shown plain ≡ state
-state_of-shows state plain shows = rw (shows.pid_max, shows.rows, shows.spaces, shows.controls, controls-shown) refl
+state_of-shows state plain shows =
+    rw (shows.pid_max, shows.rows, shows.spaces, shows.controls, controls-shown) (λ i. record state { threads = sym shows.threads i; left = sym shows.left i })
 
 -- so a snapshot shows the state that is read back from it
 pub shows-back : (state : State) (plain : Plain) → Shows state plain → Shows (state_shown plain) plain

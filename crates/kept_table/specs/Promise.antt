@@ -1,31 +1,30 @@
 -- What is true of a record whenever nobody works on it.
 use Rattle.std.specs.Prelude.{◌≡◌, ◌↔◌, ◌<◌, ◌^◌, ℕ, Bool, true, is_some, filter, length}
 use Rattle.pid_types.specs.declared.plain.Name.{Name}
-use Rattle.pid_types.specs.declared.plain.Row.{Row}
-use Rattle.pid_types.specs.Names.{path_up, number, names_in_use}
+use Rattle.pid_types.specs.Names.{in_use, path_up, number}
 use Rattle.pid_types.specs.State.{State}
 use Rattle.pid_types.specs.Limits.{ForksStayWithinLimits}
 use Rattle.pid_types.specs.Membership.{IsIn}
 use Rattle.pid_types.specs.Sound.{HasDistinctNumbers, IsSound, IsBelow}
-use Rattle.model_laws.specs.PathLaws.{CountsSubtrees, TellsSubtree}
+use Rattle.model_laws.specs.PathLaws.{homes, CountsSubtrees, TellsSubtree}
 use Rattle.model_laws.specs.ReuseLaws.{ReusesNoNumber}
 use Rattle.kept_table.specs.Chronicle.{Chronicle, total, first_kept_stamp, next_stamp, IsReplayed, IsSoundlyOpened}
 
 -- each identifier in use has a number in each namespace from its own to the root, and in no other
 abbrev pub HasAllNumbers : State → Type 0
 HasAllNumbers state =
-    (name : Name) (s : ℕ) → IsIn name (names_in_use state.rows)
+    (name : Name) (s : ℕ) → IsIn name (in_use state)
     → IsIn s (path_up state.spaces name.space) ↔ (is_some (number state.spaces name s) ≡ true)
 
 -- so many tasks are in the control group or in one below it, told by the parents of groups alone
 abbrev pub IsSubtreeCount : State → ℕ → ℕ → Type 0
-IsSubtreeCount state control n = (test : Row → Bool) → TellsSubtree state control test → n ≡ length (filter test state.rows)
+IsSubtreeCount state control n = (test : ℕ → Bool) → TellsSubtree state control test → n ≡ length (filter test (homes state))
 
 -- the headline
 pub record KeepsPromise (c : Chronicle) : Type 0 where
   pub numbered : HasAllNumbers c.present
   -- no number of a namespace names two
-  pub distinct : HasDistinctNumbers c.present.rows c.present.spaces
+  pub distinct : HasDistinctNumbers (in_use c.present) c.present.spaces
   -- each control group's count, as it is answered and shown, is the number of tasks in its subtree
   pub counts : CountsSubtrees c.present (next_stamp c)
   -- no fork raised a count above its limit

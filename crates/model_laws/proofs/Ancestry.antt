@@ -1,6 +1,6 @@
 -- Chains of parents among the rows.
 use Rattle.model_laws.proofs.Words.{◌≡◌, ℕ, zero, suc, ◌+◌, ◌<◌, ◌≤◌, Bool, true, false, not, ◌==◌, List, [], ◌∷◌, ◌++◌, map, reverse, length, Option, Some, None, refl, sym, ap, ◌∙◌, subst, inl, inr, arith, filter, option_map, option_and_then, slice_index, eq-eqb, ne_eqb, not_from_false, not_from_true, length-map, reverse-append, length-reverse, Name, Row, Space, climb, State, parent_space, path_up, beside, number, root_number, is_live, row_at, parent_number, IsIn, IsRising, IsWellNumbered, IsTreeOfSpaces, IsCoherent}
-use Rattle.model_laws.proofs.Ground.{IsIn-map, IsIn-filter, length-IsIn, Stops-at_root, climb-None, climb_suffix, Climbs, in_climb, climb_in, own_name_in_use, unique_key, IsOnTree, IsOnTree-name, root_space_parent, space_at-Some, row_at-listed, row_at-Some}
+use Rattle.model_laws.proofs.Ground.{IsIn-map, IsIn-filter, length-IsIn, Stops-at_root, climb-None, climb_suffix, Climbs, in_climb, climb_in, own_in_use, unique_key, IsOnTree, IsOnTree-name, root_space_parent, space_at-Some, row_at-listed, row_at-Some}
 use Rattle.model_laws.specs.StepLaws.{IsRootInit}
 
 -- ---- how far number 1 is
@@ -107,11 +107,11 @@ number-root spaces pid_max a tree well =
 module _ (state : State) (sound : IsCoherent state) where
   -- the same of a row
   pub number-root_of_row : (r : Row) → IsIn r state.rows → number state.spaces r.name 0 ≡ Some (root_number r.name)
-  number-root_of_row r i = number-root state.spaces state.pid_max r.name sound.spaces (sound.numbered r.name (own_name_in_use state.rows r i))
+  number-root_of_row r i = number-root state.spaces state.pid_max r.name sound.spaces (sound.numbered r.name (own_in_use state r i))
 
   -- a row's own namespace is on the tree
   pub row_on_tree : (r : Row) → IsIn r state.rows → IsOnTree state.spaces r.name.space
-  row_on_tree r i = IsOnTree-name state.spaces state.pid_max sound.spaces r.name (sound.numbered r.name (own_name_in_use state.rows r i))
+  row_on_tree r i = IsOnTree-name state.spaces state.pid_max sound.spaces r.name (sound.numbered r.name (own_in_use state r i))
 
   -- nothing but the root is around the root
   pub root_path : (x : ℕ) → IsIn x (path_up state.spaces 0) → x ≡ 0

@@ -1,5 +1,5 @@
 -- Calls on control groups leave a sound state.
-use Rattle.model_laws.proofs.Words.{◌≡◌, ℕ, ◌+◌, ◌<◌, ◌≤◌, false, not, ◌==◌, List, [], ◌∷◌, ◌++◌, map, length, Option, Some, None, refl, sym, ap, ◌∙◌, subst, inl, inr, arith, filter, nat_lt, option_map, option_and_then, option_map_or, cond_both, eqb-true, ne_eqb, eqb-false, ltb-false, not_from_false, not-true, Row, Control, greatest_limit, climb, State, control_at, parent_control, control_path, with_control, is_busy, rehome, without_control, limited, with_limit, IsIn, IsTreeOfControls, HasGoodLimit, IsCoherent, IsBelow, not_from_Decides, option_and_then_some}
+use Rattle.model_laws.proofs.Words.{◌≡◌, ℕ, ◌+◌, ◌<◌, ◌≤◌, false, not, ◌==◌, List, [], ◌∷◌, ◌++◌, map, length, Option, Some, None, refl, sym, ap, ◌∙◌, subst, inl, inr, arith, filter, nat_lt, option_map, option_and_then, option_map_or, cond_both, eqb-true, ne_eqb, eqb-false, ltb-false, not_from_false, not-true, Row, Control, greatest_limit, climb, State, control_at, parent_control, control_path, with_control, is_busy, rehome, without_control, limited, with_limit, IsIn, IsTreeOfControls, HasGoodLimit, IsCoherent, IsBelow, not_from_Decides, option_and_then_some, Thread}
 use Rattle.model_laws.proofs.Ground.{climb_in, each_of_map, IsIn-from_filter, find-filter, each_pushed, Stops-at_root, climb_trans, climb_cases, IsIn-climb_more, climb-same, climb_child, IsRising-filter, control_to_root, control_at-Some, root_control_parent, at-map, chain-map, IsTree-map, at-push_old, chain-push, IsIn-chain_new, IsTree-push, chain_listed}
 use Rattle.model_laws.proofs.Refusals.{Decides-busy, Decides-limit}
 use Rattle.model_laws.proofs.Survivors.{settled, Leaves, own_leaves}
@@ -7,8 +7,9 @@ use Rattle.model_laws.proofs.Survivors.{settled, Leaves, own_leaves}
 -- a coherent state with other control groups, where each home is
 IsCoherent-controls : (state : State) (controls : List Control) → IsCoherent state → IsTreeOfControls controls
     → ((c : Control) → IsIn c controls → HasGoodLimit c)
-    → ((r : Row) → IsIn r state.rows → (c : Control) × (control_at controls r.home ≡ Some c)) → IsCoherent (record state { controls = controls })
-IsCoherent-controls state controls sound tree limits homes = record {
+    → ((r : Row) → IsIn r state.rows → (c : Control) × (control_at controls r.home ≡ Some c))
+    → ((t : Thread) → IsIn t state.threads → (c : Control) × (control_at controls t.home ≡ Some c)) → IsCoherent (record state { controls = controls })
+IsCoherent-controls state controls sound tree limits homes thread_homes = record {
   distinct = sound.distinct;
   numbered = sound.numbered;
   parents = sound.parents;
@@ -22,6 +23,12 @@ IsCoherent-controls state controls sound tree limits homes = record {
   controls = tree;
   limits = limits;
   homes = homes;
+  threads = λ t i.
+      let g = sound.threads t i in
+      record { process = g.process; apart = g.apart; children = g.children; home = thread_homes t i };
+  threads_rise = sound.threads_rise;
+  left = sound.left;
+  left_rise = sound.left_rise;
 }
 
 -- ---- a new control group
@@ -63,11 +70,13 @@ make_control_keeps state stamp parent c sound below found shallow =
           (IsTreeOfControls-made state.controls sound.controls stamp parent below.controls on (ltb-false 64 _ shallow)
           (subst (λ x. x < stamp) at.1 (below.controls c at.0)))
           (each_pushed HasGoodLimit state.controls _ sound.limits (record { root = λ _. refl; bounded = λ limit some. absurd (cc) }))
-          (λ r i. let h = sound.homes r i in (h.0, at_old state.controls sound.controls stamp parent below.controls r.home h.0 h.1)),
+          (λ r i. let h = sound.homes r i in (h.0, at_old state.controls sound.controls stamp parent below.controls r.home h.0 h.1))
+          (λ t i. let h = (sound.threads t i).home in (h.0, at_old state.controls sound.controls stamp parent below.controls t.home h.0 h.1)),
       record {
         spaces = λ s i. omega (arith, below.spaces s i);
         controls = each_pushed (λ (d : Control). d.id < stamp + 1) state.controls _ (λ d j. omega (arith, below.controls d j)) (omega arith);
         children = λ r i. omega (arith, below.children r i);
+        thread_children = λ t i. omega (arith, below.thread_children t i);
       },
     )
 
@@ -148,10 +157,15 @@ module _ (controls : List Control) (tree : IsTreeOfControls controls) (id parent
         IsIn-climb_more (parent_control controls) 64 parent c (subst (λ x. IsIn c (climb (parent_control controls) 64 x)) same r.2)
   ]
 
+-- nothing runs in a control group that is not busy
+pub no_thread : (state : State) (id : ℕ) → is_busy state id ≡ false → (t : Thread) → IsIn t state.threads → t.home ≡ id → ⊥
+unfolding is_busy
+no_thread state id idle t i e = not_from_Decides (is_busy state id) (Decides-busy state id) idle (inl (t, i, e))
+
 -- a control group that is not busy is no parent
 pub no_child : (state : State) (id : ℕ) → is_busy state id ≡ false → (d : Control) → IsIn d state.controls → d.parent ≡ Some id → ⊥
 unfolding is_busy
-no_child state id idle d i e = not_from_Decides (is_busy state id) (Decides-busy state id) idle (inr (d, i, e))
+no_child state id idle d i e = not_from_Decides (is_busy state id) (Decides-busy state id) idle (inr (inr (d, i, e)))
 
 -- the end of a control group leaves a coherent state
 pub remove_control_leaves : (state : State) (id parent : ℕ) (c : Control) → IsCoherent state
@@ -163,11 +177,13 @@ remove_control_leaves state id parent c sound found under idle = (
       (each_of_map (λ r. (d : Control) × (control_at left r.home ≡ Some d)) (rehome id parent) state.rows (λ r i.
       cond_both (r.home == id) parent r.home (λ x. (d : Control) × (control_at left x ≡ Some d))
       (λ e. (up.0, other_at state.controls tree id childless parent differs ∙ up.1))
-      (λ e. let h = sound.homes r i in (h.0, other_at state.controls tree id childless r.home (eqb-false r.home id e) ∙ h.1)))),
+      (λ e. let h = sound.homes r i in (h.0, other_at state.controls tree id childless r.home (eqb-false r.home id e) ∙ h.1))))
+      (λ t i. let h = (sound.threads t i).home in (h.0, other_at state.controls tree id childless t.home (no_thread state id idle t i) ∙ h.1)),
   λ stamp below. record {
     spaces = below.spaces;
     controls = λ d i. below.controls d (IsIn-from_filter _ d state.controls i).0;
     children = (rows.1 stamp below).children;
+    thread_children = below.thread_children;
   },
 )
   where
@@ -226,11 +242,15 @@ set_limit_leaves state id parent limit g sound found under good = (
       HasGoodLimit-limited state.controls sound.controls id parent limit g found under good c (sound.limits c i)))
       (λ r i.
       let h = sound.homes r i in
-      (f h.0, at-map Control (λ d. d.id) (λ d. d.parent) state.controls f (λ c. refl) (λ c. refl) r.home ∙ ap (option_map f) h.1)),
+      (f h.0, at-map Control (λ d. d.id) (λ d. d.parent) state.controls f (λ c. refl) (λ c. refl) r.home ∙ ap (option_map f) h.1))
+      (λ t i.
+      let h = (sound.threads t i).home in
+      (f h.0, at-map Control (λ d. d.id) (λ d. d.parent) state.controls f (λ c. refl) (λ c. refl) t.home ∙ ap (option_map f) h.1)),
   λ stamp below. record {
     spaces = below.spaces;
     controls = each_of_map (λ c. c.id < stamp) f state.controls below.controls;
     children = below.children;
+    thread_children = below.thread_children;
   },
 )
   where

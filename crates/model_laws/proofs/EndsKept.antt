@@ -1,7 +1,7 @@
 -- Wait and the fall of a namespace leave a sound state.
-use Rattle.model_laws.proofs.Words.{◌≡◌, ℕ, Bool, true, false, not, ◌==◌, List, [], ◌∷◌, Some, refl, sym, ap, ◌∙◌, subst, inl, inr, arith, filter, map-id, eqb-false, or_cases, or_from, or_parts, or_left, or_right, not-true, not_from_false, false_from_ne_true, Which, Name, Row, Space, State, path_up, is_within, number, root_number, same_name, is_live, is_member, matching, least_row, without_row, ended_children, has_parent_within, goes_in_fall, row_after_fall, rows_after_fall, fallen_below, fall, IsIn, IsCoherent}
-use Rattle.model_laws.proofs.Ground.{IsIn-from_filter, IsIn-from_contains, contains-from_IsIn, same_name-true, own_name_in_use, number-on_path, number-off_path, same_row, path_first, path_trans, path_antisym}
-use Rattle.model_laws.proofs.Survivors.{KeepsRest, Leaves, leaves, parents_stay, settled, pairs}
+use Rattle.model_laws.proofs.Words.{◌≡◌, ℕ, Bool, true, false, not, ◌==◌, List, [], ◌∷◌, Some, refl, sym, ap, ◌∙◌, subst, inl, inr, arith, filter, map-id, eqb-false, or_cases, or_from, or_parts, or_left, or_right, not-true, not_from_false, false_from_ne_true, Which, Name, Row, Space, Thread, State, path_up, is_within, number, root_number, same_name, is_live, is_member, matching, least_row, without_row, ended_children, has_parent_within, goes_in_fall, row_after_fall, rows_after_fall, fallen_below, fall, IsIn, IsCoherent, is_of}
+use Rattle.model_laws.proofs.Ground.{IsIn-filter, IsIn-from_filter, IsIn-from_contains, contains-from_IsIn, same_name-true, own_in_use, number-on_path, number-off_path, same_row, path_first, path_trans, path_antisym, IsRising-filter, thread_space}
+use Rattle.model_laws.proofs.Survivors.{KeepsRest, Leaves, leaves, parents_stay, threads_stay, settled, pairs, StaysLeft}
 use Rattle.model_laws.proofs.Ancestry.{number-root_of_row, root_path, row_on_tree}
 use Rattle.model_laws.proofs.Refusals.{may-match}
 
@@ -22,7 +22,7 @@ reaped_row state caller row which h =
 -- a wait leaves a coherent state
 pub wait_leaves : (state : State) → IsCoherent state → (gone : Row) → IsIn gone state.rows → is_live gone ≡ false → Leaves state (without_row state gone)
 unfolding without_row
-wait_leaves state sound gone i ended = leaves state p (λ r. r) (λ s. s) sound (record {
+wait_leaves state sound gone i ended = leaves state p (λ r. r) (λ s. s) state.threads state.left sound (record {
   names = λ r. refl;
   rows = settled state sound;
   groups = pairs state.rows sound.groups;
@@ -31,6 +31,8 @@ wait_leaves state sound gone i ended = leaves state p (λ r. r) (λ s. s) sound 
   standing = λ s k e. (e, λ r l live here one. (stays r l live, live));
   fallen = λ s k e. let em = sound.fallen s k e in (λ r l stay live. em.ended r l live, em.below);
   root = sound.root;
+  go_on = threads_stay state sound p (λ r. r) (λ r. refl) state.threads state.left sound.threads_rise (λ t k. k)
+      (λ t r k l e live. (stays r l live, live)) sound.left_rise (λ name k. (k, λ r l e live. (stays r l live, live), λ t l e. l));
 }) _ _ (map-id (filter p state.rows)) (map-id state.spaces)
   where
     p : Row → Bool
@@ -68,7 +70,7 @@ module _ (state : State) (sound : IsCoherent state) (init : Row) (status : ℕ) 
   -- such a row is a member
   member-from_within : (r : Row) → IsIn r state.rows → Within r → is_member state.spaces space r ≡ true
   member-from_within r i w =
-      let n = number-on_path state.spaces r.name space (sound.numbered r.name (own_name_in_use state.rows r i)).one_each w in
+      let n = number-on_path state.spaces r.name space (sound.numbered r.name (own_in_use state r i)).one_each w in
       rw n.1 refl
 
   -- any other is none
@@ -100,8 +102,43 @@ module _ (state : State) (sound : IsCoherent state) (init : Row) (status : ℕ) 
       let g = (sound.parents init there).good q.name (ap (λ (x : Row). x.parent) (sym same) ∙ up) in
       g.outside one (path_antisym state.spaces sound.spaces space q.name.space (row_on_tree state sound init there) g.around w)
 
+  -- whether a thread or a mark of the name goes on
+  abbrev stays_name : Name → Bool
+  stays_name name = not (is_of state.spaces space name)
+
+  -- one that goes on is not within, and who is not within goes on
+  name_outside : (name : Name) → stays_name name ≡ true → IsIn space (path_up state.spaces name.space) → ⊥
+  name_outside name e w =
+      let yes : is_within state.spaces name.space space ≡ true = contains-from_IsIn (path_up state.spaces name.space) space w in
+      let no : is_within state.spaces name.space space ≡ false = not-true (is_within state.spaces name.space space) e in
+      cc
+
+  name_stays : (name : Name) → (IsIn space (path_up state.spaces name.space) → ⊥) → stays_name name ≡ true
+  name_stays name off =
+      not_from_false (is_within state.spaces name.space space) (false_from_ne_true (is_within state.spaces name.space space) (λ e. off (IsIn-from_contains (path_up state.spaces name.space) space e)))
+
+  -- the threads after the fall, and the marks
+  abbrev threads_after : List Thread
+  threads_after = filter (λ t. stays_name t.name) state.threads
+
+  abbrev left_after : List Name
+  left_after = filter stays_name state.left
+
+  -- a process outside whose first thread has left goes on
+  mark_stays : (name : Name) → IsIn name left_after → StaysLeft state stays_in_fall after_fall threads_after name
+  mark_stays name i =
+      let f = IsIn-from_filter stays_name name state.left i in
+      let own = (sound.left name f.0).0 in (
+        f.0,
+        λ r j e live. outsider_stays r (λ w. name_outside name f.1 (subst (λ (a : Name). IsIn space (path_up state.spaces a.space)) e w)) live,
+        λ t j e.
+            let here : t.name.space ≡ name.space = thread_space state sound t own.0 j own.1 (e ∙ sym own.2) ∙ ap (λ (a : Name). a.space) own.2 in
+            IsIn-filter (λ (u : Thread). stays_name u.name) t state.threads j (name_stays t.name (λ w.
+            name_outside name f.1 (subst (λ x. IsIn space (path_up state.spaces x)) here w))),
+      )
+
   -- what the fall keeps
-  KeepsRest-fall : KeepsRest state stays_in_fall after_fall after_fall_space
+  KeepsRest-fall : KeepsRest state stays_in_fall after_fall after_fall_space threads_after left_after
   KeepsRest-fall = record {
     names = λ r. refl;
     rows = settled state sound;
@@ -129,6 +166,12 @@ module _ (state : State) (sound : IsCoherent state) (init : Row) (status : ℕ) 
     ];
     root = λ s i e. or_from s.fallen (is_within state.spaces s.id space) (sound.root s i e)
         (false_from_ne_true (is_within state.spaces s.id space) (λ w. not_root (subst (λ x. IsIn space (path_up state.spaces x)) e (IsIn-from_contains (path_up state.spaces s.id) space w))));
+    go_on = threads_stay state sound stays_in_fall after_fall (λ r. refl) threads_after left_after
+        (IsRising-filter (λ (t : Thread). root_number t.name) (λ (t : Thread). stays_name t.name) state.threads sound.threads_rise)
+        (λ t i. (IsIn-from_filter (λ (u : Thread). stays_name u.name) t state.threads i).0) (λ t r i j e live. outsider_stays r (λ w.
+        let f = IsIn-from_filter (λ (u : Thread). stays_name u.name) t state.threads i in
+        name_outside t.name f.1 (subst (λ x. IsIn space (path_up state.spaces x)) (sym (thread_space state sound t r f.0 j (sym e))) w)) live)
+        (IsRising-filter root_number stays_name state.left sound.left_rise) mark_stays;
   }
     where
       -- the namespace that falls is not the root
@@ -142,4 +185,4 @@ module _ (state : State) (sound : IsCoherent state) (init : Row) (status : ℕ) 
   -- a fall leaves a coherent state
   pub fall_leaves : Leaves state (fall state init status)
   unfolding fall rows_after_fall
-  fall_leaves = leaves state stays_in_fall after_fall after_fall_space sound KeepsRest-fall _ _ refl refl
+  fall_leaves = leaves state stays_in_fall after_fall after_fall_space threads_after left_after sound KeepsRest-fall _ _ refl refl

@@ -1,11 +1,11 @@
 -- Exit leaves a sound state.
-use Rattle.model_laws.proofs.Words.{◌≡◌, ℕ, zero, suc, Bool, true, false, List, map, length, Option, Some, None, refl, sym, ap, ◌∙◌, subst, inl, inr, arith, option_map, option_and_then, if◌then◌else◌, cases_eq, Name, Row, Ended, Exited, climb, State, path_up, number, root_number, is_parent, is_live, row_at, is_init, parent_number, row_after_exit, rows_after_exit, IsIn, HasGoodParents, IsCoherent, map-id}
+use Rattle.model_laws.proofs.Words.{◌≡◌, ℕ, zero, suc, Bool, true, false, List, map, length, Option, Some, None, refl, sym, ap, ◌∙◌, subst, inl, inr, arith, option_map, option_and_then, if◌then◌else◌, cases_eq, Name, Row, Thread, Ended, Exited, climb, State, path_up, number, root_number, is_parent, is_live, row_at, is_init, parent_number, row_after_exit, rows_after_exit, handed_over, is_thread_of, not, same_name, IsIn, HasGoodParents, IsCoherent, map-id, filter}
 use Rattle.model_laws.proofs.Ground.{Climbs, IsIn-map, is_parent-true, is_parent-from, same_name-true, is_numbered-from, unique_key, row_at-map, row_at-listed, path_trans, path_antisym}
 use Rattle.model_laws.specs.ParentLaws.{TakesOrphans}
 use Rattle.model_laws.proofs.NearestSubreaper.{climbs, takes_orphans}
 use Rattle.model_laws.proofs.SpaceMaps.{HasGoodParents-kept}
 use Rattle.model_laws.proofs.Ancestry.{Far, Far-unique, Far-same, IsIn-roots, chain-in_rows, row_on_tree, root_init_row, top_row, row_far, parent_row, row_parent, nearer, one_step}
-use Rattle.model_laws.proofs.Survivors.{Leaves, leaves, all_stay, all_there, settled, pairs}
+use Rattle.model_laws.proofs.Survivors.{Leaves, leaves, all_stay, all_there, settled, pairs, others_go_on}
 
 -- ---- the rows after a task ended
 
@@ -155,8 +155,15 @@ module _ (state : State) (sound : IsCoherent state) (task heir : Row) (ended : E
             chain = chain;
           }
 
-  pub exit_leaves : Leaves state (record state { rows = rows_after })
-  exit_leaves = leaves state all_stay after (λ s. s) sound (record {
+  -- the threads after the exit, and the marks
+  abbrev threads_after : List Thread
+  threads_after = filter (λ t. not (is_thread_of task.name t)) state.threads
+
+  abbrev left_after : List Name
+  left_after = filter (λ name. not (same_name name task.name)) state.left
+
+  pub exit_leaves : Leaves state (record state { rows = rows_after; threads = threads_after; left = left_after })
+  exit_leaves = leaves state all_stay after (λ s. s) threads_after left_after sound (record {
     names = λ r. refl;
     rows = settled state sound;
     groups = pairs state.rows sound.groups;
@@ -174,16 +181,17 @@ module _ (state : State) (sound : IsCoherent state) (task heir : Row) (ended : E
     );
     fallen = λ s i e. let em = sound.fallen s i e in (λ r j stays live. em.ended r j (lived r live), em.below);
     root = sound.root;
+    go_on = others_go_on state sound task.name after (λ r. refl) others_live;
   }) _ _ (all_there after state.rows) (map-id state.spaces)
 
 -- ---- the call
 
 -- an exit that lets no namespace fall leaves a coherent state
 pub handed_on_leaves : (state : State) (status : ℕ) (caller : Row) → IsCoherent state → IsIn caller state.rows → is_live caller ≡ true
-    → is_init state caller ≡ false → Leaves state (record state { rows = rows_after_exit state caller status })
-unfolding rows_after_exit
+    → is_init state caller ≡ false → Leaves state (handed_over state caller status)
+unfolding rows_after_exit handed_over
 handed_on_leaves state status caller sound i live none =
     let no_init : number state.spaces caller.name caller.name.space ≡ Some 1 → ⊥ = λ e. (let yes : is_init state caller ≡ true = is_numbered-from state.spaces caller.name caller.name.space 1 e in cc) in
     let h = takes_orphans state caller sound i live in
-    subst (λ o. Leaves state (record state { rows = map (row_after_exit caller o (Exited status)) state.rows })) (sym h.1)
+    subst (λ o. Leaves state (record state { rows = map (row_after_exit caller o (Exited status)) state.rows; threads = filter (λ (t : Thread). not (is_thread_of caller.name t)) state.threads; left = filter (λ (a : Name). not (same_name a caller.name)) state.left })) (sym h.1)
     (exit_leaves state sound caller h.0 (Exited status) i no_init h.2)

@@ -1,11 +1,11 @@
 -- Calls that change fields of rows leave a sound state.
-use Rattle.model_laws.proofs.Words.{◌≡◌, ℕ, ℤ, pos, negsuc, ◌+◌, ◌<◌, true, false, ◌&&◌, ◌||◌, not, Some, refl, sym, ap, ◌∙◌, subst, ◌⊎◌, inl, inr, arith, if◌then◌else◌, cases_Bool, Name, Row, State, is_live, path_up, same_name, is_parent, task_numbered, names_in_use, on_row, with_row, sweep, target_of, set_group, group_for, has_members, set_children_space, IsIn, IsCoherent, IsSound, IsBelow, not_from_Decides}
-use Rattle.model_laws.proofs.Ground.{on_row-keeps, on_row-both, same_name-true, same_name-refl, own_name_in_use, group_in_use, session_in_use, number-within, space_at-Some, same_row, path_first}
+use Rattle.model_laws.proofs.Words.{◌≡◌, ℕ, ℤ, pos, negsuc, ◌+◌, ◌<◌, true, false, ◌&&◌, ◌||◌, not, Some, refl, sym, ap, ◌∙◌, subst, ◌⊎◌, inl, inr, arith, if◌then◌else◌, cases_Bool, Name, Row, State, is_live, is_numbered, process_numbered, path_up, same_name, is_parent, names_in_use, on_row, with_row, sweep, target_of, set_group, group_for, has_members, set_children_space, IsIn, IsCoherent, IsSound, IsBelow, not_from_Decides, has_thread, or_cases}
+use Rattle.model_laws.proofs.Ground.{find-Some, is_numbered-true, own_in_use, on_row-keeps, on_row-both, same_name-true, same_name-refl, own_name_in_use, group_in_use, session_in_use, number-within, space_at-Some, same_row, path_first, has_thread-true, thread_space}
 use Rattle.model_laws.specs.Refusals.{IsGroupFor}
 use Rattle.model_laws.specs.StepLaws.{StaysSound}
-use Rattle.model_laws.proofs.Refusals.{group_found, task_found, target_found, Decides-members}
+use Rattle.model_laws.proofs.Refusals.{group_found, target_found, Decides-members}
 use Rattle.model_laws.proofs.Sweeps.{from_kept, IsSound-sweep}
-use Rattle.model_laws.proofs.Survivors.{IsSettled, settled, Leaves, map_leaves, IsOwn, own_leaves}
+use Rattle.model_laws.proofs.Survivors.{IsSettled, settled, Leaves, map_leaves, all_go_on, IsOwn, own_leaves}
 
 -- ---- what each call has to leave
 
@@ -15,13 +15,21 @@ IsBelow-next stamp state b = record {
   spaces = λ s i. omega (arith, b.spaces s i);
   controls = λ c i. omega (arith, b.controls c i);
   children = λ r i. omega (arith, b.children r i);
+  thread_children = λ t i. omega (arith, b.thread_children t i);
 }
 
 -- a coherent state whose ids are below a stamp is sound after the sweep, with ids below it
 pub swept_below : (next : State) (stamp : ℕ) → IsCoherent next × IsBelow stamp next → IsSound (sweep next) × IsBelow stamp (sweep next)
 unfolding sweep
-swept_below next stamp k =
-    (IsSound-sweep next k.0, record { spaces = λ s i. k.1.spaces s (from_kept next s i).0; controls = k.1.controls; children = k.1.children })
+swept_below next stamp k = (
+  IsSound-sweep next k.0,
+  record {
+    spaces = λ s i. k.1.spaces s (from_kept next s i).0;
+    controls = k.1.controls;
+    children = k.1.children;
+    thread_children = k.1.thread_children;
+  },
+)
 
 -- so is what a change leaves
 pub swept : (state next : State) → Leaves state next → StaysSound state (sweep next)
@@ -36,23 +44,37 @@ row_leaves state name change sound own rows = own_leaves state (on_row name chan
 
 -- ---- join
 
--- a join leaves a coherent state
-pub join_leaves : (state : State) (target : ℕ) (caller row : Row) → IsCoherent state → task_numbered state caller.name.space target ≡ Some row
+-- the process that a number names is there, in the namespace or below it
+pub numbered_within : (state : State) (s n : ℕ) (row : Row) → IsCoherent state → process_numbered state s n ≡ Some row
+    → IsIn row state.rows × IsIn s (path_up state.spaces row.name.space)
+unfolding process_numbered
+numbered_within state s n row sound h =
+    let f = find-Some (λ (r : Row). has_thread state (λ name. is_numbered state.spaces name s n) r || is_numbered state.spaces r.name s n) state.rows row h in (
+      f.0,
+      elim (or_cases (has_thread state (λ name. is_numbered state.spaces name s n) row) (is_numbered state.spaces row.name s n) f.1) [
+        | inl e ↦
+            let t = has_thread-true state (λ name. is_numbered state.spaces name s n) row e in
+            subst (λ x. IsIn s (path_up state.spaces x)) (thread_space state sound t.0 row t.1 f.0 t.3)
+            (number-within state.spaces t.0.name s n (is_numbered-true state.spaces t.0.name s n t.2)).0
+        | inr e ↦ (number-within state.spaces row.name s n (is_numbered-true state.spaces row.name s n e)).0
+      ],
+    )
+
+-- its namespace is there, and has an old id
+pub own_space_below : (state : State) (row : Row) → IsCoherent state → IsIn row state.rows → (stamp : ℕ) → IsBelow stamp state → row.name.space < stamp
+own_space_below state row sound i stamp below =
+    let listed = (sound.numbered row.name (own_in_use state row i)).listed row.name.space (path_first state.spaces row.name.space) in
+    let at = space_at-Some state.spaces row.name.space listed.0 listed.1 in
+    subst (λ x. x < stamp) at.1 (below.spaces listed.0 at.0)
+
+-- a join of a first thread leaves a coherent state
+pub join_leaves : (state : State) (target : ℕ) (caller row : Row) → IsCoherent state → process_numbered state caller.name.space target ≡ Some row
     → Leaves state (with_row state caller.name (set_children_space row.name.space))
 join_leaves state target caller row sound there =
-    let seen = (task_found state caller target).some row there in
-    let within : IsIn caller.name.space (path_up state.spaces row.name.space) = (number-within state.spaces row.name caller.name.space target seen.1).0 in
-    let listed = (sound.numbered row.name (own_name_in_use state.rows row seen.0)).listed row.name.space (path_first state.spaces row.name.space) in
-    let at = space_at-Some state.spaces row.name.space listed.0 listed.1 in
+    let seen = numbered_within state caller.name.space target row sound there in
     row_leaves state caller.name (set_children_space row.name.space) sound (λ r. refl) (λ r i e.
-    let s = settled state sound r i in (
-      s.0,
-      s.1,
-      inr (subst (λ (a : Name). IsIn a.space (path_up state.spaces row.name.space)) (sym e) within),
-      s.3,
-      λ stamp below.
-          subst (λ x. x < stamp) at.1 (below.spaces listed.0 at.0),
-    ))
+    let s = settled state sound r i in
+    (s.0, s.1, inr (subst (λ (a : Name). IsIn a.space (path_up state.spaces row.name.space)) (sym e) seen.1), s.3, own_space_below state row sound seen.0))
 
 -- ---- setpgid and setsid
 
@@ -102,7 +124,7 @@ module _ (state : State) (sound : IsCoherent state) (target : Row) (i : IsIn tar
   pub placed_leaves : Leaves state (with_row state target.name change)
   unfolding with_row
   placed_leaves =
-      map_leaves state after sound (λ r. (
+      map_leaves state after state.threads state.left sound (λ r. (
         name r,
         on_row-keeps target.name change (λ x. x.parent) (λ x. ap (λ (y : Row). y.parent) (same x)) r,
         on_row-keeps target.name change is_live (λ x. ap is_live (same x)) r,
@@ -110,7 +132,11 @@ module _ (state : State) (sound : IsCoherent state) (target : Row) (i : IsIn tar
       (λ r j. on_row-both (IsSettled state) target.name change r (λ e. subst (λ x. IsSettled state (change x)) (sym (target_is r j e)) goes)
       (settled state sound r j))
       (λ a b j k. (together a b j k, λ e. leader a b j k (e ∙ name b)))
+      (all_go_on state after sound name lives)
     where
+      lives : (r : Row) → is_live (after r) ≡ is_live r
+      lives = on_row-keeps target.name change is_live (λ r. ap is_live (same r))
+
       goes : IsSettled state (change target)
       goes = let s = settled state sound target i in subst (IsSettled state) (sym (same target)) (free.group_used, free.session_used, s.2, s.3, s.4)
 
@@ -124,7 +150,10 @@ grouped_leaves state caller target pid pgid group sound i aimed same own there =
   where
     is_row : (n : ℤ) → target_of state caller n ≡ Some target → IsIn target state.rows
     is_row (negsuc n) h = absurd (cc)
-    is_row (pos n) h = elim ((target_found state caller (pos n)).some target h) [ inl s ↦ subst (λ r. IsIn r state.rows) (sym s.1) i | inr s ↦ s.1.0 ]
+    is_row (pos n) h = elim ((target_found state caller (pos n)).some target h) [
+      | inl s ↦ subst (λ r. IsIn r state.rows) (sym s.1) i
+      | inr s ↦ s.1.0
+    ]
 
     session : target.session ≡ caller.session
     session =

@@ -13,12 +13,14 @@ pub mod Sweeps
 pub mod Kept
 pub mod ControlsKept
 pub mod Ancestry
+pub mod Callers
 pub mod SpaceMaps
 pub mod Survivors
 pub mod EndsKept
 pub mod ExitKept
 pub mod Inserts
 pub mod ForkKept
+pub mod ThreadKept
 pub mod StepKept
 pub mod Bounds
 pub mod Limits
@@ -27,6 +29,8 @@ pub mod Refusals
 pub mod Levels
 pub mod Glimpses
 pub mod Counting
+pub mod Threadless
+pub mod ThreadMeanings
 pub mod Subtrees
 pub mod Reaping
 pub mod Falls

@@ -1,6 +1,6 @@
 -- Names and their numbers.
-use Rattle.model_laws.proofs.Words.{◌≡◌, ℕ, Bool, true, ◌==◌, ◌≤◌, List, [], ◌∷◌, reverse, length, Option, Some, None, refl, ap, inl, inr, arith, option_eq, pointwise, bytes_eq-Decides, length-reverse, eqb-true, eq-eqb, and_parts, and_from, cond_both, Name, Row, Space, State, beside, path_up, number, is_numbered, same_name, is_parent, names_in_use, taken, on_row, IsIn}
-use Rattle.model_laws.proofs.Lists.{IsIn-reverse, IsIn-to_reverse, IsIn-flat_map, IsIn-from_flat_map, IsIn-filter_map, IsIn-from_filter_map}
+use Rattle.model_laws.proofs.Words.{◌≡◌, ℕ, Bool, true, ◌==◌, ◌≤◌, List, [], ◌∷◌, reverse, length, Option, Some, None, refl, ap, inl, inr, arith, option_eq, pointwise, bytes_eq-Decides, length-reverse, eqb-true, eq-eqb, and_parts, and_from, cond_both, Name, Row, Space, Thread, State, beside, path_up, number, is_numbered, same_name, is_parent, names_in_use, in_use, taken, on_row, IsIn, map, ◌⊎◌}
+use Rattle.model_laws.proofs.Lists.{IsIn-append, IsIn-append_left, IsIn-append_right, IsIn-map, IsIn-from_map, IsIn-reverse, IsIn-to_reverse, IsIn-flat_map, IsIn-from_flat_map, IsIn-filter_map, IsIn-from_filter_map}
 
 -- ---- when two names are one
 
@@ -99,16 +99,37 @@ group_in_use rows row i = IsIn-names_in_use rows row row.group i (inr (inl refl)
 pub session_in_use : (rows : List Row) (row : Row) → IsIn row rows → IsIn row.session (names_in_use rows)
 session_in_use rows row i = IsIn-names_in_use rows row row.session i (inr (inr (inl refl)))
 
+-- what a row uses is in use
+pub used_by_row : (state : State) (a : Name) → IsIn a (names_in_use state.rows) → IsIn a (in_use state)
+used_by_row state a i = IsIn-append_right a (map (λ (t : Thread). t.name) state.threads) (names_in_use state.rows) i
+
+-- so is a row's own name
+pub own_in_use : (state : State) (row : Row) → IsIn row state.rows → IsIn row.name (in_use state)
+own_in_use state row i = used_by_row state row.name (own_name_in_use state.rows row i)
+
+-- and a thread's
+pub thread_in_use : (state : State) (t : Thread) → IsIn t state.threads → IsIn t.name (in_use state)
+thread_in_use state t i =
+    IsIn-append_left t.name (map (λ (u : Thread). u.name) state.threads) (names_in_use state.rows) (IsIn-map (λ (u : Thread). u.name) t state.threads i)
+
+-- a name in use is used by a row, or is a thread's
+pub in_use_cases : (state : State) (a : Name) → IsIn a (in_use state)
+    → IsIn a (names_in_use state.rows) ⊎ ((t : Thread) × IsIn t state.threads × (a ≡ t.name))
+in_use_cases state a i = elim (IsIn-append a (map (λ (t : Thread). t.name) state.threads) (names_in_use state.rows) i) [
+  | inl j ↦ inr (IsIn-from_map (λ (t : Thread). t.name) a state.threads j)
+  | inr j ↦ inl j
+]
+
 -- a number of a name in use is taken
-pub IsIn-taken : (state : State) (a : Name) (s n : ℕ) → IsIn a (names_in_use state.rows) → number state.spaces a s ≡ Some n → IsIn n (taken state s)
+pub IsIn-taken : (state : State) (a : Name) (s n : ℕ) → IsIn a (in_use state) → number state.spaces a s ≡ Some n → IsIn n (taken state s)
 unfolding taken
-IsIn-taken state a s n i e = IsIn-filter_map (λ name. number state.spaces name s) a n (names_in_use state.rows) i e
+IsIn-taken state a s n i e = IsIn-filter_map (λ name. number state.spaces name s) a n (in_use state) i e
 
 -- a taken number is that of a name in use
 pub user_of_number : (state : State) (s n : ℕ) → IsIn n (taken state s)
-    → (a : Name) × IsIn a (names_in_use state.rows) × (number state.spaces a s ≡ Some n)
+    → (a : Name) × IsIn a (in_use state) × (number state.spaces a s ≡ Some n)
 unfolding taken
-user_of_number state s n i = IsIn-from_filter_map (λ name. number state.spaces name s) n (names_in_use state.rows) i
+user_of_number state s n i = IsIn-from_filter_map (λ name. number state.spaces name s) n (in_use state) i
 
 -- what the change of a row keeps, its change at one name keeps
 pub on_row-keeps : {A : Type 0} (name : Name) (change : Row → Row) (part : Row → A) → ((r : Row) → part (change r) ≡ part r) → (r : Row)

@@ -1,6 +1,6 @@
 -- Who takes the children of a task that ends: the nearest subreaper, or else the init.
 use Rattle.model_laws.proofs.Words.{◌≡◌, ℕ, zero, suc, ◌+◌, ◌<◌, Bool, true, false, ◌&&◌, ◌==◌, [], length, Option, Some, None, refl, sym, ap, ◌∙◌, subst, inl, inr, arith, find, option_map, drop, option_map_or, cases_Bool, false_from_ne_true, Row, IsIn, climb, State, root_number, is_live, row_at, task_numbered, parent_number, ancestors, is_subreaper_in, nearest_subreaper, new_parent, IsCoherent, number, path_up, Decides, Decides-at, Decides-and, Decides-eqb}
-use Rattle.model_laws.proofs.Ground.{Climbs, in_climb, climb_in, find-None, own_name_in_use, number-on_path, option_both, row_at-listed, path_first, space_at-Some, task_at-own}
+use Rattle.model_laws.proofs.Ground.{Climbs, in_climb, climb_in, find-None, own_in_use, number-on_path, option_both, row_at-listed, path_first, space_at-Some, task_at-own}
 use Rattle.model_laws.specs.ParentLaws.{IsAbove, HasNoSubreaper, TakesOrphans}
 use Rattle.model_laws.proofs.Ancestry.{parent_number-at, top_row, row_parent, one_step, nearer}
 
@@ -114,7 +114,7 @@ init_beside : (state : State) → IsCoherent state → (task : Row) → IsIn tas
     → (init : Row) × IsIn init state.rows × (is_live init ≡ true) × (init.name.space ≡ task.name.space)
     × (number state.spaces init.name task.name.space ≡ Some 1)
 init_beside state sound task there lives =
-    let well = sound.numbered task.name (own_name_in_use state.rows task there) in
+    let well = sound.numbered task.name (own_in_use state task there) in
     let on = path_first state.spaces task.name.space in
     let l = well.listed task.name.space on in
     let at = space_at-Some state.spaces task.name.space l.0 l.1 in

@@ -1,18 +1,28 @@
 -- Refusals come in their order, and change nothing.
-use Rattle.model_laws.proofs.Words.{◌↔◌, ◌≡◌, ℕ, suc, ◌+◌, ◌<◌, ◌≤◌, ℤ, pos, negsuc, max, Bool, true, false, not, ◌&&◌, ◌||◌, ◌==◌, List, [], ◌∷◌, length, Option, Some, None, cond, Decides, refl, sym, ap, ◌∙◌, subst, inl, inr, arith, if◌then◌else◌, find, filter, is_none, nat_lt, nat_le, option_map, IsTrue, ◌⊎◌, option_map_or, option_eq, list_any, eqb-true, eq-eqb, ne_eqb, and_parts, and_from, not-true, not_from_false, ltb-true, lt-ltb, leb-true, le-leb, Decides-eqb, Decides-ltb, Decides-and, Decides-or, Decides-not, Decides-like, not_from_Decides, not-false, cond_both, Call, Fork, GetPid, NsPid, Exec, Exit, Wait, GetPpid, SetPgid, SetSid, MakeControl, RemoveControl, SetLimit, Move, Count, GetPgid, GetSid, Next, Join, SetSubreaper, Which, Name, Row, Space, Reply, Number, Reaped, NoneYet, End, Refused, Control, Refusal, NoCaller, NoTask, NoChild, NoNumber, PidsLimit, SpaceFallen, TooDeep, Elsewhere, BadGroup, OtherSession, IsLeader, NoGroup, Executed, RootInit, NoControl, ControlBusy, RootControl, BadLimit, ControlDepth, deepest_space, deepest_control, greatest_limit, IsIn, least_of, State, space_at, path_up, level, number, root_number, number_or_zero, is_numbered, same_name, is_parent, is_live, live_row, task_numbered, taken, restart, cyclic_draw, cursor_of, draw, control_at, control_path, count, is_limited_below, passed_limit, Outcome, answered, changed, for_found, unless_found, refuse_if, fork, forked, no_room, with_space, is_gone, is_init, ended_children, exit, is_selected, matching, least_row, end_of, without_row, wait, is_negative, target_of, session_group, group_for, has_members, set_group_of, set_pgid, set_sid, self_or_task, numbers_by, get_pid, get_ppid, get_pgid, get_sid, ns_pid, next, is_busy, exec, make_control, remove_control, set_limit, move_task, count_tasks, join, set_subreaper, step}
-use Rattle.model_laws.proofs.Ground.{IsIn-filter, IsIn-from_filter, find-Some, find-None, some_passes, list_any-from_one, option_eq-true, is_parent-true, is_parent-from, same_name-true, same_name-refl, is_numbered-true, is_numbered-from}
+use Rattle.model_laws.proofs.Words.{◌↔◌, ◌≡◌, ℕ, suc, ◌+◌, ◌<◌, ◌≤◌, ℤ, pos, negsuc, max, Bool, true, false, not, ◌&&◌, ◌||◌, ◌==◌, List, [], ◌∷◌, length, Option, Some, None, cond, Decides, refl, sym, ap, ◌∙◌, subst, inl, inr, arith, if◌then◌else◌, find, filter, is_none, nat_lt, nat_le, option_map, IsTrue, ◌⊎◌, option_map_or, option_eq, list_any, eqb-true, eq-eqb, ne_eqb, and_parts, and_from, not-true, not_from_false, ltb-true, lt-ltb, leb-true, le-leb, Decides-eqb, Decides-ltb, Decides-and, Decides-or, Decides-not, Decides-like, not_from_Decides, not-false, cond_both, Call, Fork, GetPid, NsPid, Exec, Exit, Wait, GetPpid, SetPgid, SetSid, MakeControl, RemoveControl, SetLimit, Move, Count, GetPgid, GetSid, Next, Join, SetSubreaper, NewThread, Leave, GetTid, GetTgid, Which, Name, Row, Space, Thread, Reply, Number, Done, Reaped, NoneYet, End, Refused, Control, Refusal, NoCaller, NoTask, NoChild, NoNumber, PidsLimit, SpaceFallen, TooDeep, Elsewhere, BadGroup, OtherSession, IsLeader, NoGroup, Executed, RootInit, NoControl, ControlBusy, RootControl, BadLimit, ControlDepth, deepest_space, deepest_control, greatest_limit, IsIn, least_of, State, space_at, path_up, level, number, root_number, number_or_zero, is_numbered, same_name, is_parent, is_live, caller_of, as_thread, process_at, process_numbered, thread_at, running, taken, restart, cyclic_draw, cursor_of, draw, control_at, control_path, count, is_limited_below, passed_limit, Outcome, answered, changed, for_found, unless_found, refuse_if, fork, forked, no_room, with_space, is_gone, is_init, ended_children, exit, ends, thread, leave, without_thread, without_caller, set_thread_space, set_children_space, with_row, map, get_tid, get_tgid, is_selected, matching, least_row, end_of, without_row, wait, is_negative, target_of, session_group, group_for, has_members, set_group_of, set_pgid, set_sid, self_or_task, numbers_by, get_pid, get_ppid, get_pgid, get_sid, ns_pid, next, is_busy, exec, make_control, remove_control, set_limit, move_task, count_tasks, join, set_subreaper, step, without_first, has_thread, has_left, thread_numbered, task_numbered, ThreadCall, NextThread, thread_step, next_thread, filter_map, is_some, levels_to, is_no_leader, AnyCall, of_table, of_threads}
+use Rattle.model_laws.proofs.Ground.{IsIn-filter, IsIn-from_filter, find-Some, find-None, some_passes, list_any-from_one, option_eq-true, is_parent-true, is_parent-from, same_name-true, same_name-refl, is_numbered-true, is_numbered-from, has_thread-true, has_thread-from}
 use Rattle.pid_types.specs.declared.call.Which.TheVariants.{Any, Pid, OwnGroup, Group}
 use Rattle.model_laws.specs.Draws.{IsCyclicDraw, IsLeastFree}
-use Rattle.model_laws.specs.Refusals.{goes_on, refuse, find_one, refuse_first, IsLiveTask, IsTaskTo, IsSelfOrTask, IsTarget, IsChild, IsSelected, NamesTarget, IsSessionGroup, IsGroupFor, IsSpace, IsControl, IsBusy, HasNoNumber, wants_room, wants_number, verdict, refusal_in, is_query, RefusalChangesNothing, NoneYetChangesNothing, QueryChangesNothing}
+use Rattle.model_laws.specs.Refusals.{goes_on, refuse, find_one, refuse_first, IsCallingProcess, IsTaskTo, IsSelfOrTask, IsTarget, IsChild, IsSelected, NamesTarget, IsSessionGroup, IsGroupFor, IsSpace, IsControl, IsBusy, HasNoNumber, wants_room, wants_number, verdict, refusal_in, is_query, RefusalChangesNothing, NoneYetChangesNothing, QueryChangesNothing, HasThread, HasLeft, IsFirstThread, IsProcessAt, IsThreadTo, IsNameTo, NamesThread, thread_verdict, FirstThreadRefusalAnswers}
 use Rattle.model_laws.specs.WaitLaws.{MayBeReaped}
 use Rattle.model_laws.proofs.Draws.{draw_is_least}
-use Rattle.model_laws.proofs.Calls.{MayFork, is_answer, Comes, still, born, born_first, fell, handed_on, waits, reaped, grouped, led, executed, control_made, control_removed, limit_set, moved, joined, marked}
+use Rattle.model_laws.proofs.Calls.{MayFork, is_answer, Comes, still, born, born_first, thread_made, fell, handed_on, fell_last, handed_on_last, left_first, left_other, waits, reaped, grouped, led, executed, control_made, control_removed, limit_set, moved, joined, joined_other, marked, ComesOfThreads, still_threads}
 
 -- ---- the first that applies
 
+-- what the call can come to
+abbrev ComesTo : State → ℕ → AnyCall → Outcome → Type 0
+ComesTo state stamp (of_table call) o = Comes state stamp call o
+ComesTo state stamp (of_threads call) o = ComesOfThreads state call o
+
+-- an answer, by which nothing changes
+unchanged : (state : State) (stamp : ℕ) (call : AnyCall) (reply : Reply) → is_answer reply ≡ true → ComesTo state stamp call (answered state reply)
+unchanged state stamp (of_table call) reply answer = still call reply answer
+unchanged state stamp (of_threads call) reply answer = still_threads call reply answer
+
 -- the outcome is one that the call can come to, and its reply is judged so
-record IsJudged (state : State) (stamp : ℕ) (call : Call) (later : Option Refusal → Type 0) (o : Outcome) : Type 0 where
-  comes : Comes state stamp call o
+record IsJudged (state : State) (stamp : ℕ) (call : AnyCall) (later : Option Refusal → Type 0) (o : Outcome) : Type 0 where
+  comes : ComesTo state stamp call o
   said : later (refusal_in o.reply)
 
 -- what a search finds fits, and where it finds nothing, nothing does
@@ -28,18 +38,18 @@ finds fits p xs to from = record {
   none = λ e x h. let f = from x h in let never : p x ≡ false = find-None p xs e x f.0 in let there : p x ≡ true = f.1 in cc;
 }
 
-module _ {state : State} {stamp : ℕ} {call : Call} where
+module _ {state : State} {stamp : ℕ} {call : AnyCall} where
   -- a call that is not refused
-  goes : {o : Outcome} → refusal_in o.reply ≡ None → Comes state stamp call o → IsJudged state stamp call goes_on o
+  goes : {o : Outcome} → refusal_in o.reply ≡ None → ComesTo state stamp call o → IsJudged state stamp call goes_on o
   goes none comes = record { comes = comes; said = none }
 
   -- an answer
   says : (reply : Reply) → is_answer reply ≡ true → refusal_in reply ≡ None → IsJudged state stamp call goes_on (answered state reply)
-  says reply answer none = goes none (still _ reply answer)
+  says reply answer none = goes none (unchanged state stamp call reply answer)
 
   -- a refusal
   refuses : (r : Refusal) (later : Option Refusal → Type 0) → later (Some r) → IsJudged state stamp call later (answered state (Refused r))
-  refuses r later said = record { comes = still _ (Refused r) refl; said = said }
+  refuses r later said = record { comes = unchanged state stamp call (Refused r) refl; said = said }
 
   -- a test tells whether the reason of a refusal holds
   refused_by : {reason : Type 0} {o : Outcome} {later : Option Refusal → Type 0} (b : Bool) (r : Refusal) → Decides b reason
@@ -98,17 +108,78 @@ Decides-number state caller a n = (is_numbered-true state.spaces a caller.name.s
 Decides-any : {A : Type 0} (p : A → Bool) (xs : List A) → Decides (list_any p xs) ((x : A) × IsIn x xs × (p x ≡ true))
 Decides-any p xs = (some_passes p xs, λ f. list_any-from_one p xs f.0 f.1 f.2)
 
--- the live task
-live_found : (state : State) (n : ℕ) → IsFound (IsLiveTask state n) (live_row state.rows n)
-live_found state n = finds (IsLiveTask state n) (λ row. (root_number row.name == n) && is_live row) state.rows
-    (λ row i e. let t = and_parts (root_number row.name == n) (is_live row) e in (i, eqb-true (root_number row.name) n t.0, t.1))
-    (λ row t. (t.0, and_from _ _ (eq-eqb _ _ t.1) t.2))
+-- a thread of the process beside its first one has a name that passes the test
+Decides-thread : (state : State) (test : Name → Bool) (fits : Name → Type 0) (row : Row) → ((name : Name) → Decides (test name) (fits name))
+    → Decides (has_thread state test row) ((t : Thread) × IsIn t state.threads × fits t.name × (t.process ≡ row.name))
+Decides-thread state test fits row each = (
+  λ h. let t = has_thread-true state test row h in (t.0, t.1, (each t.0.name).0 t.2, t.3),
+  λ f. has_thread-from state test row f.0 f.1 ((each f.0.name).1 f.2) f.3,
+)
 
--- the task with the number
-pub task_found : (state : State) (caller : Row) (n : ℕ) → IsFound (IsTaskTo state caller n) (task_numbered state caller.name.space n)
+-- a process's first thread has left
+pub Decides-left : (state : State) (n : ℕ) → Decides (has_left state n) (HasLeft state n)
+Decides-left state n =
+    Decides-like _ (λ f. (f.0, f.1, eqb-true (root_number f.0) n f.2)) (λ f. (f.0, f.1, eq-eqb (root_number f.0) n f.2))
+    (Decides-any (λ name. root_number name == n) state.left)
+
+-- who calls
+live_found : (state : State) (n : ℕ) → IsFound (IsCallingProcess state n) (caller_of state n)
+live_found state n = finds (IsCallingProcess state n)
+    (λ row. (has_thread state (λ name. root_number name == n) row || (not (has_left state n) && (root_number row.name == n))) && is_live row) state.rows
+    (λ row i e. let d = (decides row).0 e in (i, d.1, d.0)) (λ row is. (is.0, (decides row).1 (is.2, is.1)))
+  where
+    decides : (row : Row) → Decides ((has_thread state (λ name. root_number name == n) row || (not (has_left state n) && (root_number row.name == n))) && is_live row)
+        ((HasThread state n row ⊎ ((HasLeft state n → ⊥) × IsFirstThread n row)) × (is_live row ≡ true))
+    decides row = Decides-and _ _ (Decides-or _ _ (Decides-thread state (λ name. root_number name == n) (λ name. root_number name ≡ n) row (λ name. Decides-eqb (root_number name) n))
+        (Decides-and _ _ (Decides-not _ (Decides-left state n)) (Decides-eqb (root_number row.name) n))) (Decides-it (is_live row))
+
+-- the process that moves
+process_found : (state : State) (n : ℕ) → IsFound (IsProcessAt state n) (process_at state n)
+process_found state n = finds (IsProcessAt state n)
+    (λ row. (has_thread state (λ name. root_number name == n) row || (root_number row.name == n)) && is_live row) state.rows
+    (λ row i e. let d = (decides row).0 e in (i, d.1, d.0)) (λ row is. (is.0, (decides row).1 (is.2, is.1)))
+  where
+    decides : (row : Row) → Decides ((has_thread state (λ name. root_number name == n) row || (root_number row.name == n)) && is_live row)
+        ((HasThread state n row ⊎ IsFirstThread n row) × (is_live row ≡ true))
+    decides row = Decides-and _ _ (Decides-or _ _ (Decides-thread state (λ name. root_number name == n) (λ name. root_number name ≡ n) row (λ name. Decides-eqb (root_number name) n))
+        (Decides-eqb (root_number row.name) n)) (Decides-it (is_live row))
+
+-- the process of the task with the number
+pub task_found : (state : State) (caller : Row) (n : ℕ) → IsFound (IsTaskTo state caller n) (process_numbered state caller.name.space n)
+unfolding process_numbered
+task_found state caller n = finds (IsTaskTo state caller n)
+    (λ row. has_thread state (λ name. is_numbered state.spaces name caller.name.space n) row || is_numbered state.spaces row.name caller.name.space n) state.rows
+    (λ row i e. (i, (decides row).0 e)) (λ row is. (is.0, (decides row).1 is.1))
+  where
+    decides : (row : Row) → Decides (has_thread state (λ name. is_numbered state.spaces name caller.name.space n) row || is_numbered state.spaces row.name caller.name.space n)
+        (((t : Thread) × IsThreadTo state caller n t × (t.process ≡ row.name)) ⊎ (number state.spaces row.name caller.name.space ≡ Some n))
+    decides row = Decides-or _ _
+        (Decides-like _ (λ f. (f.0, (f.1, f.2), f.3)) (λ f. (f.0, f.1.0, f.1.1, f.2))
+        (Decides-thread state (λ name. is_numbered state.spaces name caller.name.space n) (λ name. number state.spaces name caller.name.space ≡ Some n) row (λ name.
+        Decides-number state caller name n)))
+        (Decides-number state caller row.name n)
+
+-- the thread with the number
+thread_found : (state : State) (caller : Row) (n : ℕ) → IsFound (IsThreadTo state caller n) (thread_numbered state caller.name.space n)
+thread_found state caller n = finds (IsThreadTo state caller n) (λ t. is_numbered state.spaces t.name caller.name.space n) state.threads
+    (λ t i e. (i, (Decides-number state caller t.name n).0 e)) (λ t is. (is.0, (Decides-number state caller t.name n).1 is.1))
+
+-- the process whose own name has the number
+first_found : (state : State) (caller : Row) (n : ℕ)
+    → IsFound (λ row. IsIn row state.rows × (number state.spaces row.name caller.name.space ≡ Some n)) (task_numbered state caller.name.space n)
 unfolding task_numbered
-task_found state caller n = finds (IsTaskTo state caller n) (λ row. is_numbered state.spaces row.name caller.name.space n) state.rows
-    (λ row i e. (i, (Decides-number state caller row.name n).0 e)) (λ row t. (t.0, (Decides-number state caller row.name n).1 t.1))
+first_found state caller n = finds _ (λ row. is_numbered state.spaces row.name caller.name.space n) state.rows
+    (λ row i e. (i, (Decides-number state caller row.name n).0 e)) (λ row is. (is.0, (Decides-number state caller row.name n).1 is.1))
+
+-- something is found
+Decides-found : {A : Type 0} {fits : A → Type 0} (o : Option A) → IsFound fits o → Decides (is_some o) ((a : A) × fits a)
+Decides-found None found = (λ e. absurd (cc), λ f. absurd (found.none refl f.0 f.1))
+Decides-found (Some a) found = (λ e. (a, found.some a refl), λ f. refl)
+
+-- a number names a thread that is no process's first one
+Decides-no_leader : (state : State) (caller : Row) (pid : ℤ) → Decides (is_no_leader state caller pid) (NamesThread state caller pid)
+Decides-no_leader state caller (pos n) = Decides-and _ _ (Decides-found _ (thread_found state caller n)) (Decides-not _ (Decides-eqb n 0))
+Decides-no_leader state caller (negsuc n) = (λ e. absurd (cc), λ never. absurd never)
 
 -- the one thing where a reason holds, and else what a search finds
 found_or : {A : Type 0} (reason : Type 0) (b : Bool) (x : A) (o : Option A) (fits : A → Type 0) → Decides b reason → IsFound fits o
@@ -119,7 +190,7 @@ found_or reason false x o fits d f = record { some = λ y e. grind (arith, f.som
 -- where 0 is the caller
 self_found : (state : State) (caller : Row) (n : ℕ) → IsFound (IsSelfOrTask state caller n) (self_or_task state caller n)
 self_found state caller n =
-    found_or (n ≡ 0) (n == 0) caller (task_numbered state caller.name.space n) (IsTaskTo state caller n) (Decides-eqb n 0) (task_found state caller n)
+    found_or (n ≡ 0) (n == 0) caller (process_numbered state caller.name.space n) (IsTaskTo state caller n) (Decides-eqb n 0) (task_found state caller n)
 
 -- whom setpgid names
 pub target_found : (state : State) (caller : Row) (pid : ℤ) → IsFound (IsTarget state caller pid) (target_of state caller pid)
@@ -204,12 +275,19 @@ Decides-members state group =
 pub Decides-busy : (state : State) (id : ℕ) → Decides (is_busy state id) (IsBusy state id)
 unfolding is_busy
 Decides-busy state id =
-    Decides-or (list_any (λ row. (row.home == id) && is_live row) state.rows) (list_any (λ c. option_eq ◌==◌ c.parent (Some id)) state.controls)
-    (Decides-like _ (λ f. let t = and_parts (f.0.home == id) (is_live f.0) f.2 in (f.0, f.1, eqb-true f.0.home id t.0, t.1))
-    (λ f. (f.0, f.1, and_from _ _ (eq-eqb f.0.home id f.2) f.3))
-    (Decides-any (λ (row : Row). (row.home == id) && is_live row) state.rows))
+    Decides-or (list_any (λ t. t.home == id) state.threads) _
+    (Decides-like _ (λ f. (f.0, f.1, eqb-true f.0.home id f.2)) (λ f. (f.0, f.1, eq-eqb f.0.home id f.2))
+    (Decides-any (λ (t : Thread). t.home == id) state.threads))
+    (Decides-or (list_any (λ row. not (has_left state (root_number row.name)) && ((row.home == id) && is_live row)) state.rows)
+    (list_any (λ c. option_eq ◌==◌ c.parent (Some id)) state.controls)
+    (Decides-like _ (λ f. let d = (decides f.0).0 f.2 in (f.0, f.1, d.0, d.1.0, d.1.1)) (λ f. (f.0, f.1, (decides f.0).1 (f.2, (f.3, f.4))))
+    (Decides-any (λ (row : Row). not (has_left state (root_number row.name)) && ((row.home == id) && is_live row)) state.rows))
     (Decides-like _ (λ f. (f.0, f.1, option_eq-true ◌==◌ eqb-true f.0.parent id f.2)) (λ f. (f.0, f.1, rw f.2 (eq-eqb id id refl)))
-    (Decides-any (λ (c : Control). option_eq ◌==◌ c.parent (Some id)) state.controls))
+    (Decides-any (λ (c : Control). option_eq ◌==◌ c.parent (Some id)) state.controls)))
+  where
+    decides : (row : Row) → Decides (not (has_left state (root_number row.name)) && ((row.home == id) && is_live row))
+        ((HasLeft state (root_number row.name) → ⊥) × ((row.home ≡ id) × (is_live row ≡ true)))
+    decides row = Decides-and _ _ (Decides-not _ (Decides-left state (root_number row.name))) (Decides-and _ _ (Decides-eqb row.home id) (Decides-it (is_live row)))
 
 -- a limit that is too great
 pub Decides-limit : (limit : Option ℕ) → Decides (option_map_or (nat_lt greatest_limit) limit false) ((n : ℕ) × (limit ≡ Some n) × (greatest_limit < n))
@@ -238,19 +316,18 @@ Decides-no_number state s =
 
 -- ---- each call
 
-module _ {stamp : ℕ} {call : Call} where
-  -- of a fork: numbers, then limits
-  first_room : (old state : State) (caller : Row) (t : ℕ) → (MayFork state caller t → Comes old stamp call (forked state caller t))
-      → IsJudged old stamp call (wants_room state caller t) (unless_found old (no_room state caller t) (λ r. r) (forked state caller t))
+module _ {stamp : ℕ} {call : AnyCall} where
+  -- of a new task: numbers, then limits
+  first_room : (old state : State) (caller : Row) (t : ℕ) (o : Outcome) → (MayFork state caller t → ComesTo old stamp call o)
+      → refusal_in o.reply ≡ None → IsJudged old stamp call (wants_room state caller t) (unless_found old (no_room state caller t) (λ r. r) o)
   unfolding no_room passed_limit
-  first_room old state caller t made =
+  first_room old state caller t o made none =
       first_by (λ s. is_none (draw state s)) NoNumber (path_up state.spaces t)
-      (λ o. unless_found old (option_map_or (λ s. Some (NoNumber s)) o (option_map PidsLimit (passed_limit state caller.home))) (λ r. r)
-      (forked state caller t))
+      (λ x. unless_found old (option_map_or (λ s. Some (NoNumber s)) x (option_map PidsLimit (passed_limit state caller.home))) (λ r. r) o)
       (Decides-no_number state) (λ s. refl) (λ numbers.
       first_by (λ c. is_limited_below state (count state c + 1) c) PidsLimit (control_path state.controls caller.home)
-      (λ o. unless_found old (option_map PidsLimit o) (λ r. r) (forked state caller t)) (λ c. Decides-it _) (λ c. refl) (λ limits.
-      goes refl (made (record { numbers = numbers; limits = limits }))))
+      (λ x. unless_found old (option_map PidsLimit x) (λ r. r) o) (λ c. Decides-it _) (λ c. refl) (λ limits.
+      goes none (made (record { numbers = numbers; limits = limits }))))
 
   -- the namespace that a fork goes into is there, and stands
   first_space : (state : State) (p : ℕ) (o : Outcome) (later : Option Refusal → Type 0) → (is_gone state p ≡ false → IsJudged state stamp call later o)
@@ -266,41 +343,63 @@ module _ {stamp : ℕ} {call : Call} where
       go (Some s) f h = let j = refused_by s.fallen SpaceFallen (Decides-it s.fallen) h in record { comes = j.comes; said = inl (s, f.some s refl, j.said) }
 
 -- each call is judged so
-judged : (state : State) (stamp : ℕ) (call : Call) → IsJudged state stamp call (verdict state stamp call) (step state stamp call)
+judged : (state : State) (stamp : ℕ) (call : Call) → IsJudged state stamp (of_table call) (verdict state stamp call) (step state stamp call)
 unfolding step fork exec exit wait set_pgid set_group_of set_sid make_control remove_control set_limit move_task count_tasks join set_subreaper get_pid get_ppid get_pgid get_sid ns_pid next
 judged state stamp (Fork n new_space) = found_by _ NoCaller (live_found state n) (λ caller found.
     refused_by _ TooDeep (Decides-and new_space _ (Decides-it _) (leb-true deepest_space _, le-leb deepest_space _)) (λ shallow.
-    refused_by _ Elsewhere (Decides-and new_space _ (Decides-it _) (Decides-not _ (Decides-eqb caller.children_space caller.name.space))) (λ here.
-    first_space state caller.children_space _ (wants_number state stamp new_space caller) (λ stands. room caller found stands new_space shallow here))))
+    refused_by _ Elsewhere (Decides-and new_space _ (Decides-it _) (Decides-not _ (Decides-eqb (as_thread state n caller).children_space caller.name.space))) (λ here.
+    first_space state (as_thread state n caller).children_space _ (wants_number state stamp new_space (as_thread state n caller)) (λ stands. room caller found stands new_space shallow here))))
   where
-    room : (caller : Row) → live_row state.rows n ≡ Some caller → is_gone state caller.children_space ≡ false → (b : Bool)
-        → (b && nat_le deepest_space (level state.spaces caller.children_space)) ≡ false → (b && not (caller.children_space == caller.name.space)) ≡ false
-        → IsJudged state stamp (Fork n b) (wants_number state stamp b caller)
-        (let planned = if b then with_space state caller.children_space stamp else state in
-        let t = if b then stamp else caller.children_space in
-        unless_found state (no_room planned caller t) (λ r. r) (forked planned caller t))
+    room : (caller : Row) → caller_of state n ≡ Some caller → is_gone state (as_thread state n caller).children_space ≡ false → (b : Bool)
+        → (b && nat_le deepest_space (level state.spaces (as_thread state n caller).children_space)) ≡ false
+        → (b && not ((as_thread state n caller).children_space == caller.name.space)) ≡ false
+        → IsJudged state stamp (of_table (Fork n b)) (wants_number state stamp b (as_thread state n caller))
+        (let planned = if b then with_space state (as_thread state n caller).children_space stamp else state in
+        let t = if b then stamp else (as_thread state n caller).children_space in
+        unless_found state (no_room planned (as_thread state n caller) t) (λ r. r) (forked planned (as_thread state n caller) t))
     room caller found stands true shallow here =
-        first_room state (with_space state caller.children_space stamp) caller stamp (λ may. born_first n caller found stands shallow (not-false _ here) may)
+        first_room state (with_space state (as_thread state n caller).children_space stamp) (as_thread state n caller) stamp _ (λ may.
+        born_first n caller found stands shallow (not-false _ here) may) refl
     room caller found stands false shallow here =
-        first_room state state caller caller.children_space (λ may. born n false caller refl found stands may)
+        first_room state state (as_thread state n caller) (as_thread state n caller).children_space _ (λ may. born n false caller refl found stands may) refl
 judged state stamp (GetPid n) = answered_by _ NoCaller _ (live_found state n) (λ row. says _ refl refl)
 judged state stamp (NsPid n target) =
-    answered_by _ NoCaller _ (live_found state n) (λ row. answered_by _ NoTask _ (task_found state row target) (λ task. says _ refl refl))
+    answered_by _ NoCaller _ (live_found state n) (λ row.
+    named row (thread_numbered state row.name.space target) (task_numbered state row.name.space target) (thread_found state row target) (first_found state row target))
+  where
+    named : (caller : Row) (t : Option Thread) (o : Option Row) → IsFound (IsThreadTo state caller target) t
+        → IsFound (λ row. IsIn row state.rows × (number state.spaces row.name caller.name.space ≡ Some target)) o
+        → IsJudged state stamp (of_table (NsPid n target)) (find_one (IsNameTo state caller target) NoTask (λ name. goes_on))
+        (answered state (option_map_or (λ (t : Thread). levels_to state caller t.name) t (option_map_or (λ (row : Row). levels_to state caller row.name) o (Refused NoTask))))
+    named caller (Some t) o threads firsts =
+        let j = says {stamp = stamp} {call = of_table (NsPid n target)} (levels_to state caller t.name) refl refl in
+        record { comes = j.comes; said = inl (t.name, inl (t, threads.some t refl, refl), j.said) }
+    named caller None (Some row) threads firsts =
+        let j = says {stamp = stamp} {call = of_table (NsPid n target)} (levels_to state caller row.name) refl refl in
+        let f = firsts.some row refl in
+        record { comes = j.comes; said = inl (row.name, inr (row, f.0, f.1, refl), j.said) }
+    named caller None None threads firsts = refuses NoTask _ (inr (
+      λ name is. elim is [
+        | inl t ↦ threads.none refl t.0 t.1
+        | inr r ↦ firsts.none refl r.0 (r.1, r.2)
+      ],
+      refl,
+    ))
 judged state stamp (Exec n) = found_by _ NoCaller (live_found state n) (λ row found. goes refl (executed n row found))
 judged state stamp (Exit n status) = found_by _ NoCaller (live_found state n) (λ row found.
-    refused_by _ RootInit (Decides-eqb (root_number row.name) 1) (λ deep. cond_both (is_init state row) _ _ (IsJudged state stamp (Exit n status) goes_on)
+    refused_by _ RootInit (Decides-eqb (root_number row.name) 1) (λ deep. cond_both (is_init state row) _ _ (IsJudged state stamp (of_table (Exit n status)) goes_on)
     (λ e. goes refl (fell n status row found deep e)) (λ e. goes refl (handed_on n status row found e))))
 judged state stamp (Wait n which) = found_by _ NoCaller (live_found state n) (λ row found. go row found (matching state row which) refl)
   where
-    reaps : (caller : Row) → live_row state.rows n ≡ Some caller → (o : Option Row) → least_row state caller.name.space (ended_children state caller which) ≡ o
-        → IsJudged state stamp (Wait n which) goes_on
+    reaps : (caller : Row) → caller_of state n ≡ Some caller → (o : Option Row) → least_row state caller.name.space (ended_children state caller which) ≡ o
+        → IsJudged state stamp (of_table (Wait n which)) goes_on
         (option_map_or (λ row. changed (without_row state row) (Reaped (number_or_zero state.spaces row.name caller.name.space) (end_of row))) o
         (answered state NoneYet))
     reaps caller found None e = goes refl (waits n which caller found e)
     reaps caller found (Some row) e = goes refl (reaped n which caller row found e)
 
-    go : (caller : Row) → live_row state.rows n ≡ Some caller → (kept : List Row) → matching state caller which ≡ kept
-        → IsJudged state stamp (Wait n which) (find_one (MayBeReaped state caller which) NoChild (λ child. goes_on))
+    go : (caller : Row) → caller_of state n ≡ Some caller → (kept : List Row) → matching state caller which ≡ kept
+        → IsJudged state stamp (of_table (Wait n which)) (find_one (MayBeReaped state caller which) NoChild (λ child. goes_on))
         (refuse_if state (length kept == 0) NoChild
         (option_map_or (λ row. changed (without_row state row) (Reaped (number_or_zero state.spaces row.name caller.name.space) (end_of row)))
         (least_row state caller.name.space (ended_children state caller which)) (answered state NoneYet)))
@@ -313,12 +412,13 @@ judged state stamp (Wait n which) = found_by _ NoCaller (live_found state n) (λ
 judged state stamp (GetPpid n) = answered_by _ NoCaller _ (live_found state n) (λ row. says _ refl refl)
 judged state stamp (SetPgid n pid pgid) = found_by _ NoCaller (live_found state n) (λ row found.
     refused_by _ BadGroup (Decides-negative pgid) (λ good. found_by _ NoTask (target_found state row pid) (λ target aimed.
+    refused_by _ BadGroup (Decides-no_leader state row pid) (λ first.
     refused_by _ OtherSession (Decides-and _ _ (Decides-child row target) (Decides-not _ (Decides-name target.session row.session))) (λ same.
     refused_by _ Executed (Decides-and _ _ (Decides-child row target) (Decides-it _)) (λ fresh.
     refused_by _ NoTask (Decides-like _ (λ h. (λ c. h (inl c), λ s. h (inr s))) (λ h u. elim u [ inl c ↦ h.0 c | inr s ↦ h.1 s ])
     (Decides-not _ (Decides-or _ _ (Decides-child row target) (Decides-name target.name row.name)))) (λ own.
     refused_by _ IsLeader (Decides-name target.session target.name) (λ member. found_by _ NoGroup (group_found state row target pgid) (λ group there.
-    goes refl (grouped n pid pgid row target group found aimed same own there)))))))))
+    goes refl (grouped n pid pgid row target group found aimed first same own there))))))))))
 judged state stamp (SetSid n) = found_by _ NoCaller (live_found state n) (λ row found.
     refused_by _ IsLeader (Decides-members state row.name) (λ none. goes refl (led n row found none)))
 judged state stamp (MakeControl parent) = found_by _ NoControl (control_found state parent) (λ c found.
@@ -328,7 +428,8 @@ judged state stamp (RemoveControl id) = found_by _ NoControl (control_found stat
 judged state stamp (SetLimit id limit) = found_by _ NoControl (control_found state id) (λ c found. found_by _ RootControl (parent_found c) (λ parent under.
     refused_by _ BadLimit (Decides-limit limit) (λ good. goes refl (limit_set id parent limit c found under good))))
 judged state stamp (Move n id) =
-    found_by _ NoTask (live_found state n) (λ row found. found_by _ NoControl (control_found state id) (λ c there. goes refl (moved n id row c found there)))
+    found_by _ NoTask (process_found state n) (λ row found. found_by _ NoControl (control_found state id) (λ c there.
+    goes refl (moved n id row c found there)))
 judged state stamp (Count id) = found_by _ NoControl (control_found state id) (λ c found. says _ refl refl)
 judged state stamp (GetPgid n pid) =
     answered_by _ NoCaller _ (live_found state n) (λ row. answered_by _ NoTask _ (self_found state row pid) (λ task. says _ refl refl))
@@ -337,12 +438,53 @@ judged state stamp (GetSid n pid) =
 judged state stamp (Next n kind from) =
     answered_by _ NoCaller _ (live_found state n) (λ row. ends (least_of (filter (nat_le from) (numbers_by state kind row.name.space))))
   where
-    ends : (o : Option ℕ) → IsJudged state stamp (Next n kind from) goes_on (answered state (option_map_or Number o End))
+    ends : (o : Option ℕ) → IsJudged state stamp (of_table (Next n kind from)) goes_on (answered state (option_map_or Number o End))
     ends None = says _ refl refl
     ends (Some m) = says _ refl refl
 judged state stamp (Join n target) = found_by _ NoCaller (live_found state n) (λ row found. found_by _ NoTask (task_found state row target) (λ task there.
-    refused_by _ NoTask (not-true _, not_from_false _) (λ lives. goes refl (joined n target row task found there (not-false _ lives)))))
+    refused_by _ NoTask (not-true _, not_from_false _) (λ lives. goes refl (into row task found there (not-false _ lives) (thread_at state n) refl))))
+  where
+    into : (caller row : Row) → caller_of state n ≡ Some caller → process_numbered state caller.name.space target ≡ Some row → is_live row ≡ true
+        → (o : Option Thread) → thread_at state n ≡ o
+        → Comes state stamp (Join n target) (changed (option_map_or (λ t. record state { threads = map (set_thread_space n row.name.space) state.threads }) o
+        (with_row state caller.name (set_children_space row.name.space))) Done)
+    into caller row found there live None e = joined n target caller row found there live e
+    into caller row found there live (Some t) e = joined_other n target caller row t found there live e
 judged state stamp (SetSubreaper n on) = found_by _ NoCaller (live_found state n) (λ row found. goes refl (marked n on row found))
+
+-- and each about threads
+thread_judged : (state : State) (stamp : ℕ) (call : ThreadCall) → IsJudged state stamp (of_threads call) (thread_verdict state call) (thread_step state call)
+unfolding thread_step thread leave get_tid get_tgid next_thread
+thread_judged state stamp (NewThread n) = found_by _ NoCaller (live_found state n) (λ caller found.
+    refused_by _ Elsewhere (Decides-not _ (Decides-eqb (as_thread state n caller).children_space caller.name.space)) (λ here.
+    first_room state state (as_thread state n caller) caller.name.space _ (λ may. thread_made n caller found (not-false _ here) may) refl))
+thread_judged state stamp (Leave n status) = found_by _ NoCaller (live_found state n) (λ caller found. go caller found (running state caller == 1) refl)
+  where
+    alone : (caller : Row) → caller_of state n ≡ Some caller → (running state caller == 1) ≡ false → (o : Option Thread) → thread_at state n ≡ o
+        → ComesOfThreads state (Leave n status) (changed (option_map_or (λ t. without_thread state n) o (without_first state caller)) Done)
+    alone caller found more None e = left_first n status caller found e more
+    alone caller found more (Some t) e = left_other n status caller t found e more
+
+    go : (caller : Row) → caller_of state n ≡ Some caller → (b : Bool) → (running state caller == 1) ≡ b
+        → IsJudged state stamp (of_threads (Leave n status)) (refuse ((running state caller ≡ 1) × (root_number caller.name ≡ 1)) RootInit goes_on)
+        (if b then ends state status caller else changed (without_caller state n caller) Done)
+    go caller found true last =
+        refused_by _ RootInit (Decides-like _ (λ e. (eqb-true (running state caller) 1 last, e)) (λ h. h.1) (Decides-eqb (root_number caller.name) 1)) (λ deep.
+        cond_both (is_init state caller) _ _ (IsJudged state stamp (of_threads (Leave n status)) goes_on)
+        (λ e. goes refl (fell_last n status caller found deep e)) (λ e. goes refl (handed_on_last n status caller found e)))
+    go caller found false more = record {
+      comes = alone caller found more (thread_at state n) refl;
+      said = inr (λ h. (let yes : (running state caller == 1) ≡ true = eq-eqb (running state caller) 1 h.0 in let no : (running state caller == 1) ≡ false = more in cc), refl);
+    }
+thread_judged state stamp (GetTid n) = answered_by _ NoCaller _ (live_found state n) (λ row. says _ refl refl)
+thread_judged state stamp (GetTgid n target) =
+    answered_by _ NoCaller _ (live_found state n) (λ row. answered_by _ NoTask _ (task_found state row target) (λ task. says _ refl refl))
+thread_judged state stamp (NextThread n from) = answered_by _ NoCaller _ (live_found state n) (λ row.
+    told (least_of (filter (nat_le from) (filter_map (λ t. number state.spaces t.name row.name.space) state.threads))))
+  where
+    told : (o : Option ℕ) → IsJudged state stamp (of_threads (NextThread n from)) goes_on (answered state (option_map_or Number o End))
+    told None = says _ refl refl
+    told (Some m) = says _ refl refl
 
 -- each call comes to one of the outcomes
 pub step_comes : (state : State) (stamp : ℕ) (call : Call) → Comes state stamp call (step state stamp call)
@@ -351,6 +493,13 @@ step_comes state stamp call = (judged state stamp call).comes
 -- a call is refused exactly where a reason holds, by the first one
 pub first_step : (state : State) (stamp : ℕ) (call : Call) → verdict state stamp call (refusal_in (step state stamp call).reply)
 first_step state stamp call = (judged state stamp call).said
+
+-- so it is of calls about threads
+pub thread_step_comes : (state : State) (call : ThreadCall) → ComesOfThreads state call (thread_step state call)
+thread_step_comes state call = (thread_judged state 0 call).comes
+
+pub first_thread_step : FirstThreadRefusalAnswers
+first_thread_step state call = (thread_judged state 0 call).said
 
 -- ---- nothing changes
 

@@ -1,5 +1,5 @@
 -- What stays of names, parents and paths where namespaces change.
-use Rattle.model_laws.proofs.Words.{◌≡◌, ℕ, List, map, length, sym, ap, ◌∙◌, subst, inl, inr, option_map, refl, Some, true, Name, Row, Space, space_at, path_up, number, IsIn, IsWellNumbered, HasGoodParents, HasGoodChildrenSpace, IsTreeOfSpaces, climb, parent_number, root_number, is_live}
+use Rattle.model_laws.proofs.Words.{◌≡◌, ℕ, List, map, length, sym, ap, ◌∙◌, subst, ◌⊎◌, inl, inr, option_map, None, refl, Some, true, Name, Row, Space, space_at, path_up, number, IsIn, IsWellNumbered, HasGoodParents, HasGoodChildrenSpace, IsTreeOfSpaces, climb, parent_number, root_number, is_live}
 use Rattle.model_laws.proofs.Ground.{at-map, chain-map, IsTree-map, number-same_path}
 
 -- a name stays well numbered where its path stays, and is there
@@ -55,10 +55,14 @@ module _ (spaces : List Space) (h : Space → Space) (ids : (s : Space) → (h s
   IsWellNumbered-map pid_max a =
       IsWellNumbered-kept spaces (map h spaces) pid_max a (path_up-map a.space) (λ x s i e. (h s, space_at-map x ∙ ap (option_map h) e))
 
-  -- children's namespaces stay good
+  -- children's namespaces stay good, those of threads too
+  pub IsGoodSpace-map : (own into : ℕ) → (space_at spaces into ≡ None) ⊎ IsIn own (path_up spaces into)
+      → (space_at (map h spaces) into ≡ None) ⊎ IsIn own (path_up (map h spaces) into)
+  IsGoodSpace-map own into (inl none) = inl (space_at-map into ∙ ap (option_map h) none)
+  IsGoodSpace-map own into (inr i) = inr (subst (IsIn own) (sym (path_up-map into)) i)
+
   pub HasGoodChildrenSpace-map : (r : Row) → HasGoodChildrenSpace spaces r → HasGoodChildrenSpace (map h spaces) r
-  HasGoodChildrenSpace-map r (inl none) = inl (space_at-map r.children_space ∙ ap (option_map h) none)
-  HasGoodChildrenSpace-map r (inr i) = inr (subst (IsIn r.name.space) (sym (path_up-map r.children_space)) i)
+  HasGoodChildrenSpace-map r good = IsGoodSpace-map r.name.space r.children_space good
 
   -- parents stay good
   pub HasGoodParents-map : (rows : List Row) (r : Row) → HasGoodParents rows spaces r → HasGoodParents rows (map h spaces) r

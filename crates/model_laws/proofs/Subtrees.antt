@@ -1,8 +1,9 @@
 -- Paths are chains of parents, and a count is the number of tasks whose home is in the subtree.
-use Rattle.model_laws.proofs.Words.{◌≡◌, ℕ, zero, suc, List, length, Option, Some, None, refl, sym, ap, ◌∙◌, subst, inl, inr, filter, arith, same_from_decides, Control, ControlRow, Counted, NoControl, IsIn, climb, parent_space, path_up, control_at, parent_control, control_path, is_below, count, answered, for_found, count_tasks, step, with_count, IsTreeOfControls}
+use Rattle.model_laws.proofs.Words.{◌≡◌, ℕ, Bool, zero, suc, List, map, State, Row, Thread, length, Option, Some, None, refl, sym, ap, ◌∙◌, subst, inl, inr, filter, arith, same_from_decides, Control, ControlRow, Counted, NoControl, IsIn, climb, parent_space, path_up, control_at, parent_control, control_path, is_below, count, answered, for_found, count_tasks, step, with_count, IsTreeOfControls}
 use Rattle.model_laws.proofs.Ground.{filter-same, IsIn-from_map, IsIn-from_contains, contains-from_IsIn, Stops, Stops-at_root, climb-None, climb-Some, climb_cases, IsIn-climb_first, at-listed, root_space_parent, root_control_parent, control_at-Some}
-use Rattle.model_laws.specs.PathLaws.{IsChain, IsPathOf, IsInSubtree, PathsAreChains, CountIsOfSubtree, SubtreeIsTold, CountsAreOfSubtrees}
+use Rattle.model_laws.specs.PathLaws.{homes, IsChain, IsPathOf, IsInSubtree, PathsAreChains, CountIsOfSubtree, SubtreeIsTold, CountsAreOfSubtrees}
 use Rattle.model_laws.proofs.ControlsKept.{path_of_parent}
+use Rattle.model_laws.proofs.Counting.{length-filter-map, length-filter-append}
 
 -- a chain that stops is a chain of parents
 IsChain-climb : (f : ℕ → Option ℕ) (k id : ℕ) → Stops f k id → IsChain f (climb f k id)
@@ -55,18 +56,27 @@ on_path controls tree c _ (IsInSubtree.child g parent i e up) =
 -- the path of the home tells the subtree
 pub subtree_is_told : SubtreeIsTold
 unfolding control_path
-subtree_is_told state c sound row i = (
-  λ e. IsInSubtree-climb state.controls 65 row.home c (IsIn-from_contains (control_path state.controls row.home) c e),
-  λ e. contains-from_IsIn (control_path state.controls row.home) c (on_path state.controls sound.coherent.controls c row.home e),
+subtree_is_told state c sound home i = (
+  λ e. IsInSubtree-climb state.controls 65 home c (IsIn-from_contains (control_path state.controls home) c e),
+  λ e. contains-from_IsIn (control_path state.controls home) c (on_path state.controls sound.coherent.controls c home e),
 )
+
+-- a count is that of the homes that pass
+count-homes : (state : State) (c : ℕ) → count state c ≡ length (filter (λ home. is_below state.controls home c) (homes state))
+unfolding count
+count-homes state c =
+    let below : ℕ → Bool = λ home. is_below state.controls home c in
+    let all = length-filter-append below (map (λ (t : Thread). t.home) state.threads) (map (λ (r : Row). r.home) state.rows) in
+    let rows = length-filter-map below (λ (r : Row). r.home) state.rows in
+    let threads = length-filter-map below (λ (t : Thread). t.home) state.threads in
+    omega (arith, all, rows, threads)
 
 -- a count is that of the subtree
 pub count_is_of_subtree : CountIsOfSubtree
-unfolding count
 count_is_of_subtree state c test sound tells =
-    ap length (filter-same (λ row. is_below state.controls row.home c) test state.rows (λ row i.
-    let told = subtree_is_told state c sound row i in
-    same_from_decides (is_below state.controls row.home c) (test row) told (tells row i)))
+    count-homes state c ∙ ap length (filter-same (λ home. is_below state.controls home c) test (homes state) (λ home i.
+    let told = subtree_is_told state c sound home i in
+    same_from_decides (is_below state.controls home c) (test home) told (tells home i)))
 
 -- a count is answered, and shown
 pub counts_are_of_subtrees : CountsAreOfSubtrees
@@ -82,5 +92,5 @@ counts_are_of_subtrees state stamp sound g test i tells = (
     found : control_at state.controls g.id ≡ Some g
     found = at-listed Control (λ d. d.id) (λ d. d.parent) (control_path state.controls) state.controls sound.coherent.controls g i
 
-    counted : count state g.id ≡ length (filter test state.rows)
+    counted : count state g.id ≡ length (filter test (homes state))
     counted = count_is_of_subtree state g.id test sound tells

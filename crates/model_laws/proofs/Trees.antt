@@ -1,10 +1,10 @@
 -- The trees of namespaces and control groups, and rows by their root numbers.
-use Rattle.model_laws.proofs.Words.{◌≡◌, ℕ, true, ◌&&◌, ◌==◌, List, map, Some, None, ap, eqb-true, and_parts, Name, Row, Space, Control, space_at, parent_space, path_up, root_number, row_at, is_live, live_row, control_at, parent_control, control_path, IsIn, IsRising, IsWellNumbered, IsTreeOfSpaces, IsTreeOfControls, State, IsCoherent, number, task_numbered, is_numbered}
-use Rattle.model_laws.proofs.Lists.{find-Some, find-only}
+use Rattle.model_laws.proofs.Words.{◌≡◌, ℕ, true, not, ◌&&◌, ◌||◌, ◌==◌, List, map, Some, None, ap, eqb-true, and_parts, caller_of, has_left, has_thread, process_at, process_numbered, Name, Row, Space, Thread, Control, space_at, parent_space, path_up, root_number, row_at, is_live, live_row, control_at, parent_control, control_path, IsIn, IsRising, IsWellNumbered, IsTreeOfSpaces, IsTreeOfControls, State, IsCoherent, number, task_numbered, is_numbered, Bool, ◌∙◌, is_thread_of, and_from}
+use Rattle.model_laws.proofs.Lists.{find-Some, find-only, some_passes, list_any-from_one}
 use Rattle.model_laws.proofs.Chains.{Stops-at_root, IsIn-climb_first, climb_trans, climb_antisym}
 use Rattle.model_laws.proofs.Rising.{unique_key, find-key, find-key_at}
 use Rattle.model_laws.proofs.Forests.{at-listed, root_parent, path_to_root, chain_listed}
-use Rattle.model_laws.proofs.Names.{own_name_in_use, is_numbered-true, is_numbered-from}
+use Rattle.model_laws.proofs.Names.{own_in_use, same_name-true, is_numbered-true, is_numbered-from, same_name-refl}
 
 -- ---- namespaces
 
@@ -95,11 +95,51 @@ live_row-Some rows n row h =
     let t = and_parts (root_number row.name == n) (is_live row) r.1 in
     (r.0, eqb-true (root_number row.name) n t.0, t.1)
 
+-- a process with such a thread has one
+pub has_thread-true : (state : State) (test : Name → Bool) (row : Row) → has_thread state test row ≡ true
+    → (t : Thread) × IsIn t state.threads × (test t.name ≡ true) × (t.process ≡ row.name)
+has_thread-true state test row h =
+    let f = some_passes (λ (t : Thread). test t.name && is_thread_of row.name t) state.threads h in
+    let e = and_parts (test f.0.name) (is_thread_of row.name f.0) f.2 in
+    (f.0, f.1, e.0, same_name-true f.0.process row.name e.1)
+
+-- and who has one is told so
+pub has_thread-from : (state : State) (test : Name → Bool) (row : Row) (t : Thread) → IsIn t state.threads → test t.name ≡ true → t.process ≡ row.name
+    → has_thread state test row ≡ true
+has_thread-from state test row t i e own =
+    list_any-from_one (λ (u : Thread). test u.name && is_thread_of row.name u) state.threads t i
+    (and_from (test t.name) (is_thread_of row.name t) e (same_name-refl t.process row.name own))
+
+-- a thread is in the namespace of its process
+pub thread_space : (state : State) → IsCoherent state → (t : Thread) (row : Row) → IsIn t state.threads → IsIn row state.rows → t.process ≡ row.name
+    → t.name.space ≡ row.name.space
+thread_space state sound t row i j own =
+    let p = (sound.threads t i).process in
+    p.4 ∙ ap (λ (r : Row). r.name.space) (same_row state.rows sound.rows_rise p.0 row p.1 j (p.2 ∙ own))
+
+-- who calls is one of the rows, and lives
+pub caller_of-Some : (state : State) (n : ℕ) (row : Row) → caller_of state n ≡ Some row → IsIn row state.rows × (is_live row ≡ true)
+caller_of-Some state n row h =
+    let f = find-Some (λ (r : Row). (has_thread state (λ name. root_number name == n) r || (not (has_left state n) && (root_number r.name == n))) && is_live r) state.rows row h in
+    (f.0, (and_parts (has_thread state (λ name. root_number name == n) row || (not (has_left state n) && (root_number row.name == n))) (is_live row) f.1).1)
+
+-- so is the process of any of its threads
+pub process_at-Some : (state : State) (n : ℕ) (row : Row) → process_at state n ≡ Some row → IsIn row state.rows × (is_live row ≡ true)
+process_at-Some state n row h =
+    let f = find-Some (λ (r : Row). (has_thread state (λ name. root_number name == n) r || (root_number r.name == n)) && is_live r) state.rows row h in
+    (f.0, (and_parts (has_thread state (λ name. root_number name == n) row || (root_number row.name == n)) (is_live row) f.1).1)
+
+-- a process that a number names is one of the rows
+pub process_numbered-Some : (state : State) (s n : ℕ) (row : Row) → process_numbered state s n ≡ Some row → IsIn row state.rows
+unfolding process_numbered
+process_numbered-Some state s n row h =
+    (find-Some (λ (r : Row). has_thread state (λ name. is_numbered state.spaces name s n) r || is_numbered state.spaces r.name s n) state.rows row h).0
+
 -- the task with a number in a namespace is found by it
 pub task_at-own : (state : State) → IsCoherent state → (row : Row) → IsIn row state.rows → (s n : ℕ) → number state.spaces row.name s ≡ Some n
     → task_numbered state s n ≡ Some row
 unfolding task_numbered
 task_at-own state sound row i s n e =
     find-only (λ r. is_numbered state.spaces r.name s n) state.rows row i (is_numbered-from state.spaces row.name s n e) (λ r j f.
-    same_row state.rows sound.rows_rise r row j i (sound.distinct r.name row.name (own_name_in_use state.rows r j) (own_name_in_use state.rows row i) s n
+    same_row state.rows sound.rows_rise r row j i (sound.distinct r.name row.name (own_in_use state r j) (own_in_use state row i) s n
     (is_numbered-true state.spaces r.name s n f) e))

@@ -19,3 +19,6 @@ pub mod ControlScripts
 pub mod DepthScripts
 pub mod JoinScripts
 pub mod SubreaperScripts
+pub mod ThreadLaws
+pub mod ThreadScripts
+pub mod Before

@@ -4,7 +4,7 @@ use Rattle.pid_types.specs.declared.plain.Name.{Name}
 use Rattle.pid_types.specs.declared.plain.Space.{Space}
 use Rattle.pid_types.specs.declared.plain.Control.{Control}
 use Rattle.pid_types.specs.State.{State}
-use Rattle.pid_types.specs.Names.{parent_space, path_up, level, number, numbers_from, names_in_use}
+use Rattle.pid_types.specs.Names.{parent_space, path_up, level, number, numbers_from, in_use}
 use Rattle.pid_types.specs.Controls.{control_path}
 use Rattle.pid_types.specs.Outcome.{sweep}
 use Rattle.pid_types.specs.Sound.{IsSound, HasDistinctNumbers}
@@ -27,12 +27,12 @@ NumbersFromLevel =
 -- in a sound state a name in use has a number in each namespace from its own to the root, and in no other
 abbrev pub NamesHaveNumbers : Type 0
 NamesHaveNumbers =
-    (state : State) (name : Name) (s : ℕ) → IsSound state → IsIn name (names_in_use state.rows)
+    (state : State) (name : Name) (s : ℕ) → IsSound state → IsIn name (in_use state)
     → IsIn s (path_up state.spaces name.space) ↔ (is_some (number state.spaces name s) ≡ true)
 
 -- and no number of a namespace names two
 abbrev pub NoNumberNamesTwo : Type 0
-NoNumberNamesTwo = (state : State) → IsSound state → HasDistinctNumbers state.rows state.spaces
+NoNumberNamesTwo = (state : State) → IsSound state → HasDistinctNumbers (in_use state) state.spaces
 
 -- in a sound state the root is at most 32 levels above each namespace, and at most 64 above each control group
 abbrev pub LevelsAreBounded : Type 0
@@ -45,7 +45,7 @@ LevelsAreBounded =
 abbrev pub SweepKeepsNumbered : Type 0
 SweepKeepsNumbered =
     (state : State) (s : Space) (name : Name) (n : ℕ)
-    → IsIn s state.spaces → IsIn name (names_in_use state.rows) → number state.spaces name s.id ≡ Some n → IsIn s (sweep state).spaces
+    → IsIn s state.spaces → IsIn name (in_use state) → number state.spaces name s.id ≡ Some n → IsIn s (sweep state).spaces
 
 -- in a sound state the sweep takes nothing, so a call that changes nothing needs none after it
 abbrev pub SoundNeedsNoSweep : Type 0

@@ -1,6 +1,5 @@
 -- What paths are, and what a control group's subtree is, by the parents alone.
-use Rattle.std.specs.Prelude.{◌≡◌, ℕ, Bool, true, List, [], ◌∷◌, length, filter, Option, Some, None}
-use Rattle.pid_types.specs.declared.plain.Row.{Row}
+use Rattle.std.specs.Prelude.{◌≡◌, ℕ, Bool, true, List, [], ◌∷◌, ◌++◌, map, length, filter, Option, Some, None}
 use Rattle.pid_types.specs.declared.plain.Space.{Space}
 use Rattle.pid_types.specs.declared.plain.Control.{Control}
 use Rattle.pid_types.specs.declared.plain.ControlRow.{ControlRow}
@@ -41,30 +40,34 @@ pub data IsInSubtree (controls : List Control) (c : ℕ) : ℕ → Type 0 where
   child : (g : Control) (parent : ℕ) → IsIn g controls → g.parent ≡ Some parent → IsInSubtree controls c parent
       → IsInSubtree controls c g.id
 
--- the test passes just the tasks whose home is in the subtree of c
-abbrev pub TellsSubtree : State → ℕ → (Row → Bool) → Type 0
+-- the homes of all tasks: of the threads beside first ones, and of the processes, zombies among them
+abbrev pub homes : State → List ℕ
+homes state = map (λ t. t.home) state.threads ++ map (λ row. row.home) state.rows
+
+-- the test passes just those that are in the subtree of c
+abbrev pub TellsSubtree : State → ℕ → (ℕ → Bool) → Type 0
 TellsSubtree state c test =
-    (row : Row) → IsIn row state.rows
-    → (test row ≡ true → IsInSubtree state.controls c row.home) × (IsInSubtree state.controls c row.home → test row ≡ true)
+    (home : ℕ) → IsIn home (homes state)
+    → (test home ≡ true → IsInSubtree state.controls c home) × (IsInSubtree state.controls c home → test home ≡ true)
 
 -- in a sound state a control group's count is the number of tasks whose home is in its subtree, by whatever test that is told
 abbrev pub CountIsOfSubtree : Type 0
 CountIsOfSubtree =
-    (state : State) (c : ℕ) (test : Row → Bool) → IsSound state → TellsSubtree state c test
-    → count state c ≡ length (filter test state.rows)
+    (state : State) (c : ℕ) (test : ℕ → Bool) → IsSound state → TellsSubtree state c test
+    → count state c ≡ length (filter test (homes state))
 
--- there is such a test: whether the control group is on the path of the task's home
+-- there is such a test: whether the control group is on the path of the home
 abbrev pub SubtreeIsTold : Type 0
-SubtreeIsTold = (state : State) (c : ℕ) → IsSound state → TellsSubtree state c (λ row. is_below state.controls row.home c)
+SubtreeIsTold = (state : State) (c : ℕ) → IsSound state → TellsSubtree state c (λ home. is_below state.controls home c)
 
 -- the answer to a count of each control group, and the count that a snapshot shows of it, are the number of tasks whose home is in
 -- its subtree
 abbrev pub CountsSubtrees : State → ℕ → Type 0
 CountsSubtrees state stamp =
-    (g : Control) (test : Row → Bool) → IsIn g state.controls → TellsSubtree state g.id test
-    → ((step state stamp (Count g.id)).reply ≡ Counted (length (filter test state.rows)))
+    (g : Control) (test : ℕ → Bool) → IsIn g state.controls → TellsSubtree state g.id test
+    → ((step state stamp (Count g.id)).reply ≡ Counted (length (filter test (homes state))))
     × ((plain : Plain) → Shows state plain → (c : ControlRow) → IsIn c plain.controls.items → c.id ≡ g.id
-    → c.count ≡ length (filter test state.rows))
+    → c.count ≡ length (filter test (homes state)))
 
 -- so it is in every sound state
 abbrev pub CountsAreOfSubtrees : Type 0

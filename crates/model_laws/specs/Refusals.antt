@@ -14,12 +14,17 @@ use Rattle.pid_types.specs.declared.reply.Refusal.{Refusal}
 use Rattle.pid_types.specs.declared.reply.Refusal.TheVariants.{NoCaller, NoTask, NoChild, NoNumber, PidsLimit, SpaceFallen, TooDeep, Elsewhere, BadGroup, OtherSession, IsLeader, NoGroup, Executed, RootInit, NoControl, ControlBusy, RootControl, BadLimit, ControlDepth}
 use Rattle.pid_types.specs.Bounds.{deepest_space, deepest_control, greatest_limit}
 use Rattle.pid_types.specs.Membership.{IsIn}
+use Rattle.pid_types.specs.declared.plain.Thread.{Thread}
 use Rattle.pid_types.specs.State.{State}
 use Rattle.pid_types.specs.Names.{level, path_up, number, root_number, is_live, taken}
+use Rattle.pid_types.specs.Threads.{running, as_thread}
 use Rattle.pid_types.specs.Draw.{restart, cursor_of}
 use Rattle.pid_types.specs.Controls.{control_path, count, is_limited_below}
 use Rattle.pid_types.specs.Fork.{with_space}
 use Rattle.pid_types.specs.Step.{step}
+use Rattle.pid_types.specs.declared.call.ThreadCall.{ThreadCall}
+use Rattle.pid_types.specs.declared.call.ThreadCall.TheVariants.{NewThread, Leave, GetTid, GetTgid, NextThread}
+use Rattle.pid_types.specs.ThreadStep.{thread_step}
 use Rattle.model_laws.specs.Draws.{IsFull}
 
 -- ---- the order of refusals
@@ -43,13 +48,42 @@ refuse_first reason r (x ∷ xs) later reply = refuse (reason x) (r x) (refuse_f
 
 -- ---- whom and what the numbers of a call name
 
--- the live task with the root number
-abbrev pub IsLiveTask : State → ℕ → Row → Type 0
-IsLiveTask state n row = IsIn row state.rows × (root_number row.name ≡ n) × (is_live row ≡ true)
+-- a thread of the process beside its first one has the root number
+abbrev pub HasThread : State → ℕ → Row → Type 0
+HasThread state n row = (t : Thread) × IsIn t state.threads × (root_number t.name ≡ n) × (t.process ≡ row.name)
 
--- the task with the number in the caller's namespace, zombies among them
+-- the first thread of the process has the root number
+abbrev pub IsFirstThread : ℕ → Row → Type 0
+IsFirstThread n row = root_number row.name ≡ n
+
+-- the first thread of the process with the root number has left
+abbrev pub HasLeft : State → ℕ → Type 0
+HasLeft state n = (name : Name) × IsIn name state.left × (root_number name ≡ n)
+
+-- the live process of which a running thread has the root number
+abbrev pub IsCallingProcess : State → ℕ → Row → Type 0
+IsCallingProcess state n row =
+    IsIn row state.rows × (is_live row ≡ true) × (HasThread state n row ⊎ ((HasLeft state n → ⊥) × IsFirstThread n row))
+
+-- the live process of which any thread has the root number, a first one that has left too
+abbrev pub IsProcessAt : State → ℕ → Row → Type 0
+IsProcessAt state n row = IsIn row state.rows × (is_live row ≡ true) × (HasThread state n row ⊎ IsFirstThread n row)
+
+-- a thread beside first ones has the number in the caller's namespace
+abbrev pub IsThreadTo : State → Row → ℕ → Thread → Type 0
+IsThreadTo state caller n t = IsIn t state.threads × (number state.spaces t.name caller.name.space ≡ Some n)
+
+-- the process of which a thread has the number in the caller's namespace, zombies among them
 abbrev pub IsTaskTo : State → Row → ℕ → Row → Type 0
-IsTaskTo state caller n row = IsIn row state.rows × (number state.spaces row.name caller.name.space ≡ Some n)
+IsTaskTo state caller n row =
+    IsIn row state.rows
+    × (((t : Thread) × IsThreadTo state caller n t × (t.process ≡ row.name)) ⊎ (number state.spaces row.name caller.name.space ≡ Some n))
+
+-- the name of a task that has the number in the caller's namespace
+abbrev pub IsNameTo : State → Row → ℕ → Name → Type 0
+IsNameTo state caller n name =
+    ((t : Thread) × IsThreadTo state caller n t × (t.name ≡ name))
+    ⊎ ((row : Row) × IsIn row state.rows × (number state.spaces row.name caller.name.space ≡ Some n) × (row.name ≡ name))
 
 -- the same, where 0 names the caller
 abbrev pub IsSelfOrTask : State → Row → ℕ → Row → Type 0
@@ -59,6 +93,11 @@ IsSelfOrTask state caller n row = ((n ≡ 0) × (row ≡ caller)) ⊎ ((n ≡ 0 
 abbrev pub IsTarget : State → Row → ℤ → Row → Type 0
 IsTarget state caller (pos n) row = IsSelfOrTask state caller n row
 IsTarget state caller (negsuc n) row = ⊥
+
+-- the number names a thread that is no process's first one, but not where it is 0
+abbrev pub NamesThread : State → Row → ℤ → Type 0
+NamesThread state caller (pos n) = ((t : Thread) × IsThreadTo state caller n t) × (n ≡ 0 → ⊥)
+NamesThread state caller (negsuc n) = ⊥
 
 -- the task is a child of the other
 abbrev pub IsChild : Row → Row → Type 0
@@ -97,10 +136,11 @@ IsSpace state id s = IsIn s state.spaces × (s.id ≡ id)
 abbrev pub IsControl : State → ℕ → Control → Type 0
 IsControl state id c = IsIn c state.controls × (c.id ≡ id)
 
--- a live task or a control group is directly in the control group
+-- a running thread or a control group is directly in the control group
 abbrev pub IsBusy : State → ℕ → Type 0
 IsBusy state id =
-    ((row : Row) × IsIn row state.rows × (row.home ≡ id) × (is_live row ≡ true))
+    ((t : Thread) × IsIn t state.threads × (t.home ≡ id))
+    ⊎ ((row : Row) × IsIn row state.rows × (HasLeft state (root_number row.name) → ⊥) × (row.home ≡ id) × (is_live row ≡ true))
     ⊎ ((c : Control) × IsIn c state.controls × (c.parent ≡ Some id))
 
 -- ---- the refusals of each call
@@ -139,15 +179,20 @@ changes_group state caller pgid target =
     (refuse (target.session ≡ target.name) IsLeader
     (find_one (IsGroupFor state caller target pgid) NoGroup (λ group. goes_on)))))
 
+-- of a change of a thread's group. In a state without threads no number names one
+abbrev pub wants_leader : State → Row → ℤ → (Option Refusal → Type 0) → Option Refusal → Type 0
+wants_leader state caller pid later = refuse (NamesThread state caller pid) BadGroup later
+
 -- a live caller, whose call goes on to later refusals
 abbrev pub by_live : State → ℕ → (Row → Option Refusal → Type 0) → Option Refusal → Type 0
-by_live state n later = find_one (IsLiveTask state n) NoCaller later
+by_live state n later = find_one (IsCallingProcess state n) NoCaller later
 
 -- the refusals of each call in their order
 abbrev pub verdict : State → ℕ → Call → Option Refusal → Type 0
-verdict state stamp (Fork caller new_space) = by_live state caller (forks state stamp new_space)
+verdict state stamp (Fork caller new_space) = by_live state caller (λ row. forks state stamp new_space (as_thread state caller row))
 verdict state stamp (GetPid caller) = by_live state caller (λ row. goes_on)
-verdict state stamp (NsPid caller target) = by_live state caller (λ row. find_one (IsTaskTo state row target) NoTask (λ task. goes_on))
+verdict state stamp (NsPid caller target) = by_live state caller (λ row.
+    find_one (IsNameTo state row target) NoTask (λ name. goes_on))
 verdict state stamp (Exec caller) = by_live state caller (λ row. goes_on)
 verdict state stamp (Exit caller status) = by_live state caller (λ row. refuse (root_number row.name ≡ 1) RootInit goes_on)
 verdict state stamp (Wait caller which) =
@@ -157,7 +202,8 @@ verdict state stamp (GetPpid caller) = by_live state caller (λ row. goes_on)
 verdict state stamp (SetPgid caller pid pgid) =
     by_live state caller (λ row.
     refuse ((n : ℕ) × (pgid ≡ negsuc n)) BadGroup
-    (find_one (IsTarget state row pid) NoTask (changes_group state row pgid)))
+    (find_one (IsTarget state row pid) NoTask (λ target.
+    wants_leader state row pid (changes_group state row pgid target))))
 verdict state stamp (SetSid caller) =
     by_live state caller (λ row. refuse ((r : Row) × IsIn r state.rows × (r.group ≡ row.name)) IsLeader goes_on)
 verdict state stamp (MakeControl parent) =
@@ -171,7 +217,7 @@ verdict state stamp (SetLimit id limit) =
     find_one (λ parent. c.parent ≡ Some parent) RootControl (λ parent.
     refuse ((n : ℕ) × (limit ≡ Some n) × (greatest_limit < n)) BadLimit goes_on))
 verdict state stamp (Move task id) =
-    find_one (IsLiveTask state task) NoTask (λ row. find_one (IsControl state id) NoControl (λ c. goes_on))
+    find_one (IsProcessAt state task) NoTask (λ row. find_one (IsControl state id) NoControl (λ c. goes_on))
 verdict state stamp (Count id) = find_one (IsControl state id) NoControl (λ c. goes_on)
 verdict state stamp (GetPgid caller pid) = by_live state caller (λ row. find_one (IsSelfOrTask state row pid) NoTask (λ task. goes_on))
 verdict state stamp (GetSid caller pid) = by_live state caller (λ row. find_one (IsSelfOrTask state row pid) NoTask (λ task. goes_on))
@@ -181,6 +227,19 @@ verdict state stamp (Join caller target) =
     find_one (λ task. IsTaskTo state row target task) NoTask (λ task. refuse (is_live task ≡ false) NoTask goes_on))
 verdict state stamp (SetSubreaper caller on) = by_live state caller (λ row. goes_on)
 
+-- the refusals of each call about threads in their order
+abbrev pub thread_verdict : State → ThreadCall → Option Refusal → Type 0
+thread_verdict state (NewThread caller) =
+    by_live state caller (λ row.
+    refuse ((as_thread state caller row).children_space ≡ row.name.space → ⊥) Elsewhere
+    (wants_room state (as_thread state caller row) row.name.space))
+thread_verdict state (Leave caller status) =
+    by_live state caller (λ row. refuse ((running state row ≡ 1) × (root_number row.name ≡ 1)) RootInit goes_on)
+thread_verdict state (GetTid caller) = by_live state caller (λ row. goes_on)
+thread_verdict state (GetTgid caller target) =
+    by_live state caller (λ row. find_one (IsTaskTo state row target) NoTask (λ task. goes_on))
+thread_verdict state (NextThread caller from) = by_live state caller (λ row. goes_on)
+
 -- the refusal that the reply is, if it is one
 abbrev pub refusal_in : Reply → Option Refusal
 refusal_in (Refused r) = Some r
@@ -189,6 +248,10 @@ refusal_in _ = None
 -- a call is refused exactly where a reason holds, by the first one in the order of its refusals
 abbrev pub FirstRefusalAnswers : Type 0
 FirstRefusalAnswers = (state : State) (stamp : ℕ) (call : Call) → verdict state stamp call (refusal_in (step state stamp call).reply)
+
+-- so is one about threads
+abbrev pub FirstThreadRefusalAnswers : Type 0
+FirstThreadRefusalAnswers = (state : State) (call : ThreadCall) → thread_verdict state call (refusal_in (thread_step state call).reply)
 
 -- whether the call only asks
 abbrev pub is_query : Call → Bool

@@ -5,6 +5,7 @@ use Rattle.pid_types.specs.declared.call.Call.{Call}
 use Rattle.pid_types.specs.declared.reply.Reply.{Reply}
 use Rattle.pid_types.specs.State.{State, root_state}
 use Rattle.pid_types.specs.Replay.{replies, state_after}
+use Rattle.pid_types.specs.ThreadStep.{AnyCall, state_after_any, replies_to_any}
 use Rattle.pid_types.specs.Sight.{sight}
 use Rattle.pid_types.specs.Sound.{IsSound}
 
@@ -23,4 +24,13 @@ name_with space numbers = record { space = space; numbers = record { items = num
 -- the calls end in the state, and it is sound
 pub record EndsSound (pid_max : ℕ) (calls : List Call) (end : State) : Type 0 where
   pub ends : state_after (root_state pid_max) 1 calls ≡ end
+  pub sound : IsSound end
+
+-- calls of both kinds are answered so
+abbrev pub AnswersAny : ℕ → List (AnyCall × Reply) → Type 0
+AnswersAny pid_max lines = replies_to_any (root_state pid_max) 1 (map (λ l. l.0) lines) ≡ map (λ l. l.1) lines
+
+-- and end in the state, which is sound
+pub record AnyEndsSound (pid_max : ℕ) (calls : List AnyCall) (end : State) : Type 0 where
+  pub ends : state_after_any (root_state pid_max) 1 calls ≡ end
   pub sound : IsSound end

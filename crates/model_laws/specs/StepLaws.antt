@@ -8,6 +8,8 @@ use Rattle.pid_types.specs.Names.{is_live, row_at}
 use Rattle.pid_types.specs.Fork.{is_gone}
 use Rattle.pid_types.specs.Step.{step, makes_id}
 use Rattle.pid_types.specs.Replay.{state_after}
+use Rattle.pid_types.specs.declared.call.ThreadCall.{ThreadCall}
+use Rattle.pid_types.specs.ThreadStep.{AnyCall, thread_step, state_after_any}
 use Rattle.pid_types.specs.Sound.{IsSound, IsBelow}
 
 -- the state that a table begins with is sound, and its ids are below the first stamp
@@ -37,9 +39,23 @@ RunsKeepSoundness =
     (opening : State) (first : ℕ) (calls : List Call) → IsSound opening → IsBelow first opening
     → IsSound (state_after opening first calls) × IsBelow (first + length calls) (state_after opening first calls)
 
+-- so does every call about threads, which makes nothing with an id
+abbrev pub ThreadCallsKeepSoundness : Type 0
+ThreadCallsKeepSoundness = (state : State) (call : ThreadCall) → IsSound state → StaysSound state (thread_step state call).state
+
+-- and every run of calls of both kinds
+abbrev pub AnyRunsKeepSoundness : Type 0
+AnyRunsKeepSoundness =
+    (opening : State) (first : ℕ) (calls : List AnyCall) → IsSound opening → IsBelow first opening
+    → IsSound (state_after_any opening first calls) × IsBelow (first + length calls) (state_after_any opening first calls)
+
 -- no call changes the bound of all numbers, and so no run does
 abbrev pub BoundStays : Type 0
 BoundStays = (opening : State) (first : ℕ) (calls : List Call) → (state_after opening first calls).pid_max ≡ opening.pid_max
+
+-- no call about threads changes it either
+abbrev pub ThreadsKeepBound : Type 0
+ThreadsKeepBound = (state : State) (call : ThreadCall) → (thread_step state call).state.pid_max ≡ state.pid_max
 
 -- in a sound state the root namespace is there and has not fallen
 abbrev pub RootNeverFalls : Type 0

@@ -8,7 +8,8 @@ use Rattle.pid_types.specs.declared.plain.Life.TheVariants.{Zombie}
 use Rattle.pid_types.specs.declared.reply.Reply.TheVariants.{Reaped, NoneYet}
 use Rattle.pid_types.specs.Membership.{IsIn}
 use Rattle.pid_types.specs.State.{State}
-use Rattle.pid_types.specs.Names.{number_or_zero, is_live, live_row}
+use Rattle.pid_types.specs.Names.{number_or_zero, is_live}
+use Rattle.pid_types.specs.Threads.{caller_of}
 use Rattle.pid_types.specs.Step.{step}
 use Rattle.model_laws.specs.Refusals.{IsChild, IsSelected}
 
@@ -28,12 +29,12 @@ pub record IsReaped (state : State) (caller : Row) (which : Which) (n : ℕ) (en
 abbrev pub WaitReapsLeast : Type 0
 WaitReapsLeast =
     (state : State) (stamp n : ℕ) (which : Which) (caller : Row) (child : ℕ) (ended : Ended)
-    → live_row state.rows n ≡ Some caller → (step state stamp (Wait n which)).reply ≡ Reaped child ended
+    → caller_of state n ≡ Some caller → (step state stamp (Wait n which)).reply ≡ Reaped child ended
     → (row : Row) × IsReaped state caller which child ended row
 
 -- and where it finds none yet, all that it selects live
 abbrev pub NoneYetHasEnded : Type 0
 NoneYetHasEnded =
     (state : State) (stamp n : ℕ) (which : Which) (caller : Row)
-    → live_row state.rows n ≡ Some caller → (step state stamp (Wait n which)).reply ≡ NoneYet
+    → caller_of state n ≡ Some caller → (step state stamp (Wait n which)).reply ≡ NoneYet
     → (row : Row) → MayBeReaped state caller which row → is_live row ≡ true

@@ -1,10 +1,11 @@
 //! Laws of single calls: numbers, refusals, limits, and that no number is handed out twice.
 ghost use Rattle.{
-  model_laws.specs.{Draws.{DrawIsLeast}, LimitLaws.{ForkKeepsLimits, RunsKeepLimits}, NumberLaws.{LevelsAreBounded}},
+  model_laws.specs.{Draws.{DrawIsLeast}, LimitLaws.{ForkKeepsLimits, RunsKeepLimits, ThreadKeepsLimits}},
   model_laws.specs.NumberLaws.{NamesHaveNumbers, NoNumberNamesTwo, NumberIsAtLevel, NumbersFromLevel},
-  model_laws.specs.NumberLaws.{SoundNeedsNoSweep, SweepKeepsNumbered},
-  model_laws.specs.Refusals.{FirstRefusalAnswers, NoneYetChangesNothing, QueryChangesNothing, RefusalChangesNothing},
-  model_laws.specs.ReuseLaws.{NoReuse},
+  model_laws.specs.NumberLaws.{LevelsAreBounded, SoundNeedsNoSweep, SweepKeepsNumbered},
+  model_laws.specs.Refusals.{FirstRefusalAnswers, FirstThreadRefusalAnswers, NoneYetChangesNothing},
+  model_laws.specs.Refusals.{QueryChangesNothing, RefusalChangesNothing},
+  model_laws.specs.ReuseLaws.{NoReuse, ThreadReusesNoNumber},
 };
 
 /// A namespace gives the least free number from its cursor on, or else from the restart on.
@@ -47,9 +48,10 @@ pub fn sweep_keeps_numbered()
 {}
 
 /// A call is refused exactly where a refusal applies, by the first one in its order.
-#[tactic(auto, using(crate::proofs::Refusals::first_step))]
+#[tactic(auto, using(crate::proofs::Refusals::first_step, crate::proofs::Refusals::first_thread_step))]
 pub fn first_refusal_answers()
-    ensures { FirstRefusalAnswers }
+    ensures call { FirstRefusalAnswers }
+    ensures threads { FirstThreadRefusalAnswers }
 {}
 
 /// A refused call, a query and a wait that reaps nothing leave the state as it was.
@@ -60,14 +62,20 @@ pub fn nothing_changes()
     ensures none_yet { NoneYetChangesNothing }
 {}
 
-/// No fork raises a count above its limit, in one call and in every run.
-#[tactic(auto, using(crate::proofs::Limits::fork_keeps_limits, crate::proofs::Limits::run_within))]
+/// No fork and no new thread raises a count above its limit, in one call and in every run.
+#[tactic(auto, using(crate::proofs::Limits::fork_keeps_limits, crate::proofs::Limits::thread_keeps_limits, crate::proofs::Limits::run_within))]
 pub fn forks_keep_limits()
     ensures call { ForkKeepsLimits }
+    ensures thread { ThreadKeepsLimits }
     ensures run { RunsKeepLimits }
 {}
 
 /// While a name is in use, no fork makes a task with one of its numbers in the same namespace.
 pub fn no_reuse()
     ensures { NoReuse }
+{}
+
+/// In a sound state a new thread shares no number with a name that is in use.
+pub fn threads_reuse_no_number()
+    ensures { ThreadReusesNoNumber }
 {}

@@ -6,6 +6,7 @@
 //! read them.
 #![tactic(auto)]
 
+pub mod before;
 pub mod counts;
 pub mod laws;
 pub mod meanings;

@@ -4,6 +4,7 @@ ghost use Rattle.{
   model_laws.specs.PathLaws.{CountIsOfSubtree, CountsAreOfSubtrees, PathsAreChains, SubtreeIsTold},
   model_laws.specs.{ParentLaws.{NewParentIsNearest}, FallLaws.{ExitOfInitFalls}},
   model_laws.specs.WaitLaws.{NoneYetHasEnded, WaitReapsLeast},
+  model_laws.specs.ThreadLaws.{LastLeavingEnds, OneCaller, OneIsNamed},
 };
 
 /// In a sound state the path of a namespace or a control group is its chain of parents up to the root.
@@ -27,8 +28,8 @@ pub fn new_parent_is_nearest()
     ensures { NewParentIsNearest }
 {}
 
-/// The exit of a namespace's init ends every member, takes away those whose parent is a member, and
-/// changes nobody outside.
+/// The exit of a namespace's init ends every member and its threads, takes away those whose parent is a
+/// member, and changes nobody outside.
 #[tactic(auto, using(crate::proofs::Falls::exit_of_init_falls))]
 pub fn exit_of_init_falls()
     ensures { ExitOfInitFalls }
@@ -39,4 +40,12 @@ pub fn exit_of_init_falls()
 pub fn wait_reaps_least()
     ensures reaps { WaitReapsLeast }
     ensures none_yet { NoneYetHasEnded }
+{}
+
+/// In a sound state one process calls by a root number, and a number of a namespace names one process. The last thread
+/// that leaves ends its process as an exit does.
+pub fn threads_are_found()
+    ensures caller { OneCaller }
+    ensures named { OneIsNamed }
+    ensures last { LastLeavingEnds }
 {}

@@ -4,10 +4,11 @@ ghost use Rattle.{
   model_laws.specs.{ForkScripts.{WorldsSeenAlike}, GroupScripts.{SetPgidInOrder, SetSidOnce}},
   model_laws.specs.{WaitScripts.{WaitSelects, OrphansGoToInit}, FallScripts.{FallTakesMembers, FallTakesMembersEnd}},
   model_laws.specs.FallScripts.{GroupKeepsSpace, GroupKeepsSpaceEnd, GroupLetsSpaceGo, GroupLetsSpaceGoEnd},
-  model_laws.specs.FallScripts.{FallUncharges},
   model_laws.specs.ControlScripts.{LimitsAndMoves, ZombiesGoUp, ControlRefusals, NearestLimitFirst},
-  model_laws.specs.DepthScripts.{ControlDepthIs64},
+  model_laws.specs.{FallScripts.{FallUncharges}, DepthScripts.{ControlDepthIs64}},
   model_laws.specs.JoinScripts.{JoinAndFall, JoinAndFallEnd, NoForkIntoDropped, OrphanOfJoined},
+  model_laws.specs.ThreadScripts.{ThreadsHaveNumbers, LastThreadEnds, FirstThreadEnds, ExecTakesThreads},
+  model_laws.specs.ThreadScripts.{ThreadsAreCharged, LastOfInitFalls, LastThreadEndsEnd},
   model_laws.specs.SubreaperScripts.{SubreaperTakesChildren, MarkKeptOverExec, MarkOfOtherSpace, MarkOfJoined},
 };
 
@@ -79,4 +80,15 @@ pub fn subreaper_scripts()
     ensures mark_kept_over_exec { MarkKeptOverExec }
     ensures mark_of_other_space { MarkOfOtherSpace }
     ensures mark_of_joined { MarkOfJoined }
+{}
+
+/// Worked scripts of threads.
+pub fn thread_scripts()
+    ensures threads_have_numbers { ThreadsHaveNumbers }
+    ensures last_thread_ends { LastThreadEnds }
+    ensures first_thread_ends { FirstThreadEnds }
+    ensures exec_takes_threads { ExecTakesThreads }
+    ensures threads_are_charged { ThreadsAreCharged }
+    ensures last_of_init_falls { LastOfInitFalls }
+    ensures last_thread_ends_end { LastThreadEndsEnd }
 {}

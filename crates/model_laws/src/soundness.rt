@@ -1,5 +1,6 @@
 //! Every call leaves a sound state.
 ghost use Rattle.model_laws.specs.StepLaws.{PlainCallsMakeNoId, BoundStays, RootInitLives, RootNeverFalls};
+ghost use Rattle.model_laws.specs.StepLaws.{AnyRunsKeepSoundness, ThreadCallsKeepSoundness, ThreadsKeepBound};
 ghost use Rattle.model_laws.specs.StepLaws.{RootStateIsSound, RunsKeepSoundness, StepKeepsSoundness};
 
 /// The state that a table begins with is sound.
@@ -31,4 +32,12 @@ pub fn root_never_falls()
 #[tactic(auto, using(crate::proofs::Ancestry::root_init_lives))]
 pub fn root_init_lives()
     ensures { RootInitLives }
+{}
+
+/// Every call about threads leaves a sound state, and neither an id nor the bound of all numbers changes. Every run of
+/// them and of calls of the table leaves a sound state.
+pub fn threads_keep_soundness()
+    ensures call { ThreadCallsKeepSoundness }
+    ensures run { AnyRunsKeepSoundness }
+    ensures bound { ThreadsKeepBound }
 {}

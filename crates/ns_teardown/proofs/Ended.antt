@@ -106,4 +106,4 @@ module _ (s s' : Store) (l : IsLawful s) (l' : IsLawful s') (w : IsWhole s) (key
       swept s.numbering l.numbering s' l' (subst (IsLess s.numbering) (sym e.numbering) (IsLess-same s.numbering l.numbering)) (record (state_of s) { rows = rows_after_exit (state_of s) (row_of s key t) status })
       (ap (λ o. map (row_after_exit (row_of s key t) o (Exited status)) (state_of s).rows) (new_parent-is s l w key t at heir live inner h)
       ∙ sym (rows-map s s' l l' (ap (λ b. b.pid_max) e.numbering) (λ k v is. ap (λ b. number_of b k 0) e.numbering) after each_row))
-      refl (sym e.home.controls) (sym (ap (λ b. b.pid_max) e.numbering))
+      refl refl refl (sym e.home.controls) (sym (ap (λ b. b.pid_max) e.numbering))

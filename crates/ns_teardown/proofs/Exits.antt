@@ -6,9 +6,10 @@ use Rattle.pid_types.specs.declared.plain.Row.{Row}
 use Rattle.pid_types.specs.declared.reply.Reply.TheVariants.{Done}
 use Rattle.pid_types.specs.declared.reply.Refusal.TheVariants.{NoCaller, RootInit}
 use Rattle.pid_types.specs.State.{State}
-use Rattle.pid_types.specs.Names.{root_number, live_row}
+use Rattle.pid_types.specs.Names.{root_number}
+use Rattle.pid_types.specs.Threads.{caller_of}
 use Rattle.pid_types.specs.Outcome.{Outcome, refused, changed, for_found, refuse_if}
-use Rattle.pid_types.specs.Exit.{is_init, rows_after_exit, fall, exit}
+use Rattle.pid_types.specs.Exit.{is_init, handed_over, fall, exit}
 use Rattle.pid_numbers.specs.Numbering.{id_at, number_of}
 use Rattle.task_tree.specs.declared.Task.{Task}
 use Rattle.task_tree.specs.Tree.{task_at}
@@ -35,9 +36,9 @@ module _ (s : Store) (l : IsLawful s) (k : ℕ) (t : Task) (at : task_at s.tree 
   pub first-in-own : (space : ℕ) → id_at s.numbering space ≡ Some (name_at s.numbering k).space → is_init (state_of s) (row_of s k t) ≡ option_eq ◌==◌ (number_of s.numbering k space) (Some 1)
   first-in-own space id = let u = named s l k t at in ap (λ o. option_eq ◌==◌ o (Some 1)) (number-is_key s.numbering l.numbering space (name_at s.numbering k).space k u.0 id u.1)
 
-module _ (state : State) (n : ℕ) (status : ℕ) (row : Row) (found : live_row state.rows n ≡ Some row) where
+module _ (state : State) (n : ℕ) (status : ℕ) (row : Row) (found : caller_of state n ≡ Some row) where
   abbrev falls_or_ends : Row → Outcome
-  falls_or_ends r = if is_init state r then changed (fall state r status) Done else changed (record state { rows = rows_after_exit state r status }) Done
+  falls_or_ends r = if is_init state r then changed (fall state r status) Done else changed (handed_over state r status) Done
 
   asked : (b : Bool) → (root_number row.name == 1) ≡ b → exit state n status ≡ refuse_if state b RootInit (falls_or_ends row)
   unfolding exit
@@ -48,10 +49,10 @@ module _ (state : State) (n : ℕ) (status : ℕ) (row : Row) (found : live_row 
   exit-refused top = asked true top
 
   pub exit-falls : (root_number row.name == 1) ≡ false → is_init state row ≡ true → exit state n status ≡ changed (fall state row status) Done
-  exit-falls top init = asked false top ∙ ap (λ b. if b then changed (fall state row status) Done else changed (record state { rows = rows_after_exit state row status }) Done) init
+  exit-falls top init = asked false top ∙ ap (λ b. if b then changed (fall state row status) Done else changed (handed_over state row status) Done) init
 
-  pub exit-ends : (root_number row.name == 1) ≡ false → is_init state row ≡ false → exit state n status ≡ changed (record state { rows = rows_after_exit state row status }) Done
-  exit-ends top init = asked false top ∙ ap (λ b. if b then changed (fall state row status) Done else changed (record state { rows = rows_after_exit state row status }) Done) init
+  pub exit-ends : (root_number row.name == 1) ≡ false → is_init state row ≡ false → exit state n status ≡ changed (handed_over state row status) Done
+  exit-ends top init = asked false top ∙ ap (λ b. if b then changed (fall state row status) Done else changed (handed_over state row status) Done) init
 
   -- either way the reply is one
   pub exit-done : (root_number row.name == 1) ≡ false → Done ≡ (exit state n status).reply

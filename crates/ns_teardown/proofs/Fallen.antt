@@ -233,4 +233,4 @@ module _ (s s' : Store) (l : IsLawful s) (l' : IsLawful s') (w : IsWhole s) (ini
   fallen =
       let bound : s'.numbering.pid_max ≡ s.numbering.pid_max = f.less.bound ∙ f.falls.bound in
       swept f.marked f.laws s' l' f.less (fall (state_of s) row status) (sym (rows-both s s' l l' bound roots after stays each_row))
-      (spaces-after s.numbering f.marked l.numbering u.space id own f.falls) (sym f.homes.controls) (sym bound)
+      refl refl (spaces-after s.numbering f.marked l.numbering u.space id own f.falls) (sym f.homes.controls) (sym bound)

@@ -4,7 +4,7 @@
 
 ghost use Rattle.std.specs.{Prelude.{◌≡◌, ◌==◌, Some, true, false}, Option.{option_eq}};
 ghost use Rattle.{
-  pid_types.specs.{Outcome.{sweep}, Exit.{exit as exit_of, fall as fall_of, rows_after_exit}, Short.{reply_of}},
+  pid_types.specs.{Outcome.{sweep}, Exit.{exit as exit_of, fall as fall_of, handed_over}, Short.{reply_of}},
   pid_numbers.specs.Numbering.{number_of},
   task_tree.specs.Tree.{task_at, lives},
   task_table.specs.{View.{row_of, state_of}, Whole.{HasParents, IsWhole}, Found.{HasOwnSpace}},
@@ -44,10 +44,8 @@ fn end_task(store: &mut Tasks, found: &Found, status: u8)
     requires live { lives found.now.task ≡ true }
     requires own { HasOwnSpace store.old found.now }
     requires inner { IsNoInit store.old found.now }
-    ensures state { state_of store.new ≡ sweep (record (state_of store.old) {
-      rows = rows_after_exit
-          (state_of store.old) (row_of store.old found.now.key found.now.task) status;
-    }) }
+    ensures state { state_of store.new
+        ≡ sweep (handed_over (state_of store.old) (row_of store.old found.now.key found.now.task) status) }
     ensures parents { HasParents store.new }
 {
     laws(store);

@@ -2,7 +2,7 @@
 use Rattle.std.proofs.Common.{◌≡◌, ◌≢◌, ◌⊎◌, ℕ, zero, suc, ◌<◌, ◌≤◌, true, ◌==◌, List, [], ◌∷◌, ◌++◌, length, map, get_or, Option, Some, None, if◌then◌else◌, refl, sym, ap, ◌∙◌, arith, option_and_then}
 use Rattle.std.specs.Cmp.{both_ways}
 use Rattle.pid_numbers.proofs.Words.{reverse, option_map_or, cases_eq, eq-eqb, ne_eqb, option_and_then_some, length-reverse, reverse-append, map-append, climb}
-use Rattle.pid_numbers.proofs.Words.{beside, parent_space, path_up, number, contains, names_in_use, taken, cyclic_draw, cursor_of, draw, cyclic_draw-same}
+use Rattle.pid_numbers.proofs.Words.{beside, parent_space, path_up, number, contains, in_use, taken, cyclic_draw, cursor_of, draw, cyclic_draw-same}
 use Rattle.pid_numbers.proofs.Words.{Numbering, Namespace, Identifier, namespace_at, identifier_at, number_of, number_in, path_at, taken_in, draw_in, IsPath}
 use Rattle.pid_numbers.proofs.Words.{distinct-path}
 use Rattle.pid_types.specs.declared.plain.Space.{Space}
@@ -83,8 +83,8 @@ module _ (ways : ℕ → List ℕ) where
 
 -- a namespace gives the number that the model draws, where the names in use are the same
 pub draw-is : (state : State) (b : Numbering) (sid s : ℕ) (t : Namespace) → namespace_at b s ≡ Some t → state.pid_max ≡ b.pid_max → cursor_of state sid ≡ t.cursor
-    → ((i : ℕ) (u : Identifier) → identifier_at b i ≡ Some u → (x : ℕ) × (x < length (names_in_use state.rows)) × (number state.spaces (get_or (names_in_use state.rows) x root_name) sid ≡ number_of b i s))
-    → ((x : ℕ) → x < length (names_in_use state.rows) → (i : ℕ) × (number state.spaces (get_or (names_in_use state.rows) x root_name) sid ≡ number_of b i s))
+    → ((i : ℕ) (u : Identifier) → identifier_at b i ≡ Some u → (x : ℕ) × (x < length (in_use state)) × (number state.spaces (get_or (in_use state) x root_name) sid ≡ number_of b i s))
+    → ((x : ℕ) → x < length (in_use state) → (i : ℕ) × (number state.spaces (get_or (in_use state) x root_name) sid ≡ number_of b i s))
     → draw state sid ≡ draw_in b s
 unfolding draw taken taken_in
 draw-is state b sid s t at max cursor there back =
@@ -95,12 +95,12 @@ draw-is state b sid s t at max cursor there back =
     of_key : (i n : ℕ) → number_of b i s ≡ Some n → contains (taken state sid) n ≡ true
     of_key i n e = option_and_then_some (λ u. beside s (path_at b u.space) u.numbers) (identifier_at b i) n e (λ u is h.
         let r = there i u is in
-        among (λ name. number state.spaces name sid) root_name (names_in_use state.rows) r.0 n r.1 (r.2 ∙ e))
+        among (λ name. number state.spaces name sid) root_name (in_use state) r.0 n r.1 (r.2 ∙ e))
 
     same : (n : ℕ) → contains (taken state sid) n ≡ contains (taken_in b s) n
     same n = both_ways (contains (taken state sid) n) (contains (taken_in b s) n)
         (λ e.
-        let r = among_from (λ name. number state.spaces name sid) root_name (names_in_use state.rows) n e in
+        let r = among_from (λ name. number state.spaces name sid) root_name (in_use state) n e in
         let k = back r.0 r.1 in
         listed (number_in (path_at b) s) refl b.names k.0 n (sym k.1 ∙ r.2))
         (λ e. let r = among_from (number_in (path_at b) s) None b.names n e in of_key r.0 n r.2)

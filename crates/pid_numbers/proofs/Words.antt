@@ -22,7 +22,7 @@ pub use Rattle.pid_types.specs.Chains.{contains}
 unfoldable pub use Rattle.pid_types.specs.Chains.{climb}
 pub use Rattle.pid_types.specs.Draw.{cursor_of, least_free}
 unfoldable pub use Rattle.pid_types.specs.Draw.{cyclic_draw, draw}
-pub use Rattle.pid_types.specs.Names.{beside, beside_from, names_in_use, parent_space}
+pub use Rattle.pid_types.specs.Names.{beside, beside_from, in_use, parent_space}
 unfoldable pub use Rattle.pid_types.specs.Names.{number, path_up, taken}
 pub use Rattle.pid_types.specs.declared.call.Kind.{Kind}
 pub use Rattle.pid_types.specs.declared.call.Kind.TheVariants.{Group, Session, Task}

@@ -131,7 +131,7 @@ module _ (s : Store) (l : IsLawful s) (b : IsBare s) where
         ∙ ap (insert_row (row_of s' key task)) no_rows ∙ ap (λ (r : Row). r ∷ []) row-born
 
     pub state-begun : state_of s' ≡ root_state s.numbering.pid_max
-    state-begun = λ i. record { rows = rows-are i; spaces = spaces-are i; controls = (begun.home.controls ∙ b.controls) i; pid_max = begun.bound i }
+    state-begun = λ i. record { rows = rows-are i; threads = []; left = []; spaces = spaces-are i; controls = (begun.home.controls ∙ b.controls) i; pid_max = begun.bound i }
 
     parents-begun : HasParents s'
     parents-begun k p e = elim (cases_eq k key) [

@@ -1,5 +1,5 @@
--- All tasks are in the root control group or below it.
-use Rattle.std.proofs.Common.{◌≡◌, true, length, ap, subst}
+-- All tasks are in the root control group or below it, and where there are no threads these are the rows.
+use Rattle.std.proofs.Common.{◌≡◌, true, [], length, ap, subst, arith}
 use Rattle.pid_types.specs.declared.plain.Row.{Row}
 use Rattle.pid_types.specs.declared.plain.Control.{Control}
 use Rattle.pid_types.specs.Membership.{IsIn}
@@ -9,9 +9,11 @@ use Rattle.pid_types.specs.Controls.{control_path, is_below, count}
 use Rattle.model_laws.proofs.Lists.{contains-from_IsIn, filter-all}
 use Rattle.model_laws.proofs.Rising.{find-key_at}
 
-pub all-counted : (state : State) → IsSound state → count state 0 ≡ length state.rows
+pub all-counted : (state : State) → IsSound state → state.threads ≡ [] → count state 0 ≡ length state.rows
 unfolding count
-all-counted state sound = ap length (filter-all (λ row. is_below state.controls row.home 0) state.rows each)
+all-counted state sound none =
+    let all = ap length (filter-all (λ row. is_below state.controls row.home 0) state.rows each) in
+    rw none (omega (arith, all))
   where
     each : (r : Row) → IsIn r state.rows → is_below state.controls r.home 0 ≡ true
     each r on =

@@ -9,6 +9,7 @@ ghost use Rattle.std.specs.Prelude.{option_map};
 ghost use Rattle.{
   pid_types.specs.{Controls.{control_at, count as count_of}, Settings.{HasGoodPidMax}, Short.{reply_of}},
   pid_types.specs.{Shown.{Shows, with_count}, Sound.{IsSound}, State.{root_state}},
+  model_laws.specs.Before.{IsThreadless},
   task_table.specs.{View.{state_of}, Whole.{IsWhole}},
   translate.specs.{From.{rows_from}, Inside.{ids_inside}, Residents.{TellsControlTasks}, Listed.{TellsList}},
   translate.specs.{Pages.{ListsPage, TellsPage, TellsSeenPage}, Relations.{relations_at}, Spaces.{space_stat_at}},
@@ -108,6 +109,13 @@ impl PidTable {
     /// What is true at any time; the call does nothing. The state is sound.
     pub fn laws(&self)
         ensures { IsSound self.now }
+    {
+        let _ = &self.store;
+    }
+
+    /// The state has no threads beside the first ones, and none of these has left; the call does nothing.
+    pub fn no_threads(&self)
+        ensures { IsThreadless self.now }
     {
         let _ = &self.store;
     }

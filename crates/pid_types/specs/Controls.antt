@@ -22,10 +22,12 @@ control_path controls id = climb (parent_control controls) (deepest_control + 1)
 abbrev pub is_below : List Control → ℕ → ℕ → Bool
 is_below controls lower upper = contains (control_path controls lower) upper
 
--- the tasks in the control group's subtree, zombies among them: pids.current of the kernel's cgroup-v2 document, "The number of
--- processes currently in the cgroup and its descendants"
+-- the tasks in the control group's subtree, zombies and threads among them: pids.current of the kernel's cgroup-v2 document, "The
+-- number of processes currently in the cgroup and its descendants", where a process is any task, as TIDs are what it counts
 unfoldable pub count : State → ℕ → ℕ
-count state c = length (filter (λ row. is_below state.controls row.home c) state.rows)
+count state c =
+    length (filter (λ t. is_below state.controls t.home c) state.threads)
+    + length (filter (λ row. is_below state.controls row.home c) state.rows)
 
 -- whether the control group has a limit below the number
 abbrev pub is_limited_below : State → ℕ → ℕ → Bool

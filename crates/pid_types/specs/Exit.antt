@@ -12,6 +12,7 @@ use Rattle.pid_types.specs.declared.reply.Refusal.TheVariants.{RootInit}
 use Rattle.pid_types.specs.Chains.{climb}
 use Rattle.pid_types.specs.State.{State}
 use Rattle.pid_types.specs.Names.{is_numbered, root_number, same_name, is_parent, is_live, is_member, is_within, row_at, task_numbered}
+use Rattle.pid_types.specs.Threads.{without_threads}
 use Rattle.pid_types.specs.Outcome.{Outcome, changed, refuse_if, by_caller}
 
 -- whether the task is the init of its own namespace, number 1 there: pid_namespaces(7), "The namespace init process"
@@ -51,6 +52,10 @@ row_after_exit task heir ended row = record row {
 unfoldable pub rows_after_exit : State → Row → ℕ → List Row
 rows_after_exit state task status = map (row_after_exit task (new_parent state task) (Exited status)) state.rows
 
+-- the state after the task ended, with all its threads: _exit(2), "any .. threads .. are terminated"
+unfoldable pub handed_over : State → Row → ℕ → State
+handed_over state task status = without_threads task.name (record state { rows = rows_after_exit state task status })
+
 -- whether the row's parent is a member of the namespace
 abbrev pub has_parent_within : State → ℕ → Row → Bool
 has_parent_within state s row = option_map_or (λ parent. is_within state.spaces parent.space s) row.parent false
@@ -72,6 +77,10 @@ row_after_fall state init status row = record row {
 unfoldable pub rows_after_fall : State → Row → ℕ → List Row
 rows_after_fall state init status = map (row_after_fall state init status) (filter (λ row. not (goes_in_fall state init row)) state.rows)
 
+-- whether the name is of the namespace or of one inside it
+abbrev pub is_of : List Space → ℕ → Name → Bool
+is_of spaces s name = is_within spaces name.space s
+
 -- the namespace, fallen if it is s or below it
 abbrev pub fallen_below : List Space → ℕ → Space → Space
 fallen_below spaces s t = record t { fallen = t.fallen || is_within spaces t.id s }
@@ -80,13 +89,17 @@ fallen_below spaces s t = record t { fallen = t.fallen || is_within spaces t.id 
 unfoldable pub fall : State → Row → ℕ → State
 fall state init status = record state {
   rows = rows_after_fall state init status;
+  threads = filter (λ t. not (is_of state.spaces init.name.space t.name)) state.threads;
+  left = filter (λ name. not (is_of state.spaces init.name.space name)) state.left;
   spaces = map (fallen_below state.spaces init.name.space) state.spaces;
 }
 
--- the end of a task, and of its namespace if it is the init there. The root init stays
-unfoldable pub exit : State → ℕ → ℕ → Outcome
-exit state n status =
-    by_caller state n (λ caller.
+-- the end of a process, and of its namespace if it is the init there. The root init stays
+abbrev pub ends : State → ℕ → Row → Outcome
+ends state status caller =
     refuse_if state (root_number caller.name == 1) RootInit
-    (if is_init state caller then changed (fall state caller status) Done else
-    changed (record state { rows = rows_after_exit state caller status }) Done))
+    (if is_init state caller then changed (fall state caller status) Done else changed (handed_over state caller status) Done)
+
+-- the end of the caller, by any of its threads: exit_group(2), "terminates .. all threads in the calling process's thread group"
+unfoldable pub exit : State → ℕ → ℕ → Outcome
+exit state n status = by_caller state n (ends state status)

@@ -1,6 +1,7 @@
 -- Fork: fork(2), and clone(2) with CLONE_NEWPID.
 use Rattle.std.specs.Prelude.{ℕ, ◌+◌, Bool, true, false, ◌&&◌, not, ◌==◌, nat_lt, nat_le, List, [], ◌∷◌, ◌++◌, map, reverse, Some, if◌then◌else◌, is_none, unwrap_or, find, Option, option_map}
 use Rattle.std.specs.Option.{option_map_or}
+use Rattle.pid_types.specs.declared.plain.Name.{Name}
 use Rattle.pid_types.specs.declared.plain.Row.{Row}
 use Rattle.pid_types.specs.declared.plain.Space.{Space}
 use Rattle.pid_types.specs.declared.plain.Life.TheVariants.{Live}
@@ -13,12 +14,16 @@ use Rattle.pid_types.specs.State.{State}
 use Rattle.pid_types.specs.Names.{space_at, path_up, level, root_number, number_or_zero}
 use Rattle.pid_types.specs.Draw.{draw}
 use Rattle.pid_types.specs.Controls.{passed_limit}
-use Rattle.pid_types.specs.Outcome.{Outcome, changed, refuse_if, unless_found, by_caller}
+use Rattle.pid_types.specs.Outcome.{Outcome, changed, refuse_if, unless_found, by_thread}
+
+-- the list with one more, which stands by its key
+abbrev pub insert_by : {X : Type 0} → (X → ℕ) → X → List X → List X
+insert_by key new [] = new ∷ []
+insert_by key new (x ∷ xs) = if nat_lt (key new) (key x) then new ∷ x ∷ xs else x ∷ insert_by key new xs
 
 -- the rows with one more, which stands by its root number
 abbrev pub insert_row : Row → List Row → List Row
-insert_row new [] = new ∷ []
-insert_row new (row ∷ rows) = if nat_lt (root_number new.name) (root_number row.name) then new ∷ row ∷ rows else row ∷ insert_row new rows
+insert_row new rows = insert_by (λ row. root_number row.name) new rows
 
 -- the namespaces with one more under the parent
 abbrev pub with_space : State → ℕ → ℕ → State
@@ -37,11 +42,14 @@ moved_cursor state path s = record s { cursor = if contains path s.id then drawn
 unfoldable pub with_cursors : State → List ℕ → List Space
 with_cursors state path = map (moved_cursor state path) state.spaces
 
--- the caller's child in the namespace t: it has the caller's group, session and control group, and one number for each namespace
--- from t to the root
+-- a new name in the namespace t: one number for each namespace from t to the root
+abbrev pub new_name : State → ℕ → Name
+new_name state t = record { space = t; numbers = record { items = reverse (map (drawn state) (path_up state.spaces t)) } }
+
+-- the caller's child in the namespace t: it has the caller's group, session and control group
 abbrev pub child_of : State → Row → ℕ → Row
 child_of state caller t = record {
-  name = record { space = t; numbers = record { items = reverse (map (drawn state) (path_up state.spaces t)) } };
+  name = new_name state t;
   parent = Some caller.name;
   group = caller.group;
   session = caller.session;
@@ -60,7 +68,7 @@ is_gone state s = option_map_or (λ t. t.fallen) (space_at state.spaces s) true
 abbrev pub with_child : State → Row → List ℕ → State
 with_child state child path = record state { rows = insert_row child state.rows; spaces = with_cursors state path }
 
--- why the caller can have no child in the namespace t: the first namespace from t outwards that has no number to give, or else the
+-- why the caller can have no new task in the namespace t: the first namespace from t outwards that has no number to give, or else the
 -- nearest control group whose limit it would pass
 unfoldable pub no_room : State → Row → ℕ → Option Refusal
 no_room state caller t =
@@ -77,7 +85,7 @@ forked state caller t =
 -- a child in the namespace for the caller's children, or in a new one below it, in which it is the init
 unfoldable pub fork : State → ℕ → ℕ → Bool → Outcome
 fork state stamp n new_space =
-    by_caller state n (λ caller.
+    by_thread state n (λ caller.
     let p = caller.children_space in
     let planned = if new_space then with_space state p stamp else state in
     let t = if new_space then stamp else p in

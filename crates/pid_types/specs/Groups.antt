@@ -1,12 +1,13 @@
 -- Process groups and sessions: setpgid(2), setsid(2).
-use Rattle.std.specs.Prelude.{ℕ, ℤ, pos, negsuc, Bool, true, false, ◌&&◌, ◌||◌, not, ◌==◌, Option, Some, None, if◌then◌else◌, find, option_map}
+use Rattle.std.specs.Prelude.{ℕ, ℤ, pos, negsuc, Bool, true, false, ◌&&◌, ◌||◌, not, ◌==◌, Option, Some, None, if◌then◌else◌, find, option_map, is_some}
 use Rattle.std.specs.List.{list_any}
 use Rattle.pid_types.specs.declared.plain.Name.{Name}
 use Rattle.pid_types.specs.declared.plain.Row.{Row}
 use Rattle.pid_types.specs.declared.reply.Reply.TheVariants.{Done, Number}
 use Rattle.pid_types.specs.declared.reply.Refusal.TheVariants.{BadGroup, NoTask, OtherSession, Executed, IsLeader, NoGroup}
 use Rattle.pid_types.specs.State.{State}
-use Rattle.pid_types.specs.Names.{number_or_zero, is_numbered, same_name, is_parent, task_numbered, with_row}
+use Rattle.pid_types.specs.Names.{number_or_zero, is_numbered, same_name, is_parent, with_row}
+use Rattle.pid_types.specs.Threads.{thread_numbered, process_numbered}
 use Rattle.pid_types.specs.Outcome.{Outcome, changed, for_found, refuse_if, by_caller}
 
 -- whether the number is below 0
@@ -16,8 +17,13 @@ is_negative (negsuc n) = true
 
 -- whom the number names: 0 the caller, a negative one nobody
 abbrev pub target_of : State → Row → ℤ → Option Row
-target_of state caller (pos n) = if n == 0 then Some caller else task_numbered state caller.name.space n
+target_of state caller (pos n) = if n == 0 then Some caller else process_numbered state caller.name.space n
 target_of state caller (negsuc n) = None
+
+-- whether the number names a thread that is no process's first one
+abbrev pub is_no_leader : State → Row → ℤ → Bool
+is_no_leader state caller (pos n) = is_some (thread_numbered state caller.name.space n) && not (n == 0)
+is_no_leader state caller (negsuc n) = false
 
 -- the group with the number in the caller's namespace, if some task of the caller's session is in it
 unfoldable pub session_group : State → Row → ℕ → Option Name
@@ -46,12 +52,13 @@ set_group_of state caller target pgid =
     (refuse_if state (same_name target.session target.name) IsLeader
     (for_found state (group_for state caller target pgid) NoGroup (λ group. changed (with_row state target.name (set_group group)) Done)))))
 
--- the task that the first number names goes into the group that the second one names
+-- the process that the first number names goes into the group that the second one names: setpgid(2), EINVAL for another thread
 unfoldable pub set_pgid : State → ℕ → ℤ → ℤ → Outcome
 set_pgid state n pid pgid =
     by_caller state n (λ caller.
     refuse_if state (is_negative pgid) BadGroup
-    (for_found state (target_of state caller pid) NoTask (λ target. set_group_of state caller target pgid)))
+    (for_found state (target_of state caller pid) NoTask (λ target.
+    refuse_if state (is_no_leader state caller pid) BadGroup (set_group_of state caller target pgid))))
 
 -- the row, which leads a group and a session of its own
 abbrev pub start_session : Row → Row

@@ -1,5 +1,5 @@
 -- Names: their numbers in namespaces, and the rows that they name.
-use Rattle.std.specs.Prelude.{ℕ, ◌+◌, ◌-◌, Bool, true, false, ◌&&◌, ◌==◌, List, [], ◌∷◌, length, map, reverse, Option, Some, None, if◌then◌else◌, slice_index, is_some, unwrap_or, find, filter_map, flat_map, option_and_then}
+use Rattle.std.specs.Prelude.{ℕ, ◌+◌, ◌-◌, Bool, true, false, ◌&&◌, ◌==◌, List, [], ◌∷◌, ◌++◌, length, map, reverse, Option, Some, None, if◌then◌else◌, slice_index, is_some, unwrap_or, find, filter_map, flat_map, option_and_then}
 use Rattle.std.specs.Option.{option_eq}
 use Rattle.std.specs.Cmp.Lexicographic.{pointwise}
 use Rattle.pid_types.specs.declared.plain.Name.{Name}
@@ -92,13 +92,18 @@ task_numbered state s n = find (λ row. is_numbered state.spaces row.name s n) s
 abbrev pub is_member : List Space → ℕ → Row → Bool
 is_member spaces s row = is_some (number spaces row.name s)
 
--- the names that some row uses, as task, as group or as session: POSIX, "Process ID Reuse"
+-- the names that some row uses, as process, as group or as session: POSIX, "Process ID Reuse"
 abbrev pub names_in_use : List Row → List Name
 names_in_use rows = flat_map (λ row. row.name ∷ row.group ∷ row.session ∷ []) rows
 
+-- the names in use: those, and the names of the threads beside the first ones: clone(2), "The threads within a group can be
+-- distinguished by their (system-wide) unique thread IDs (TID)"
+abbrev pub in_use : State → List Name
+in_use state = map (λ t. t.name) state.threads ++ names_in_use state.rows
+
 -- the numbers in use in the namespace
 unfoldable pub taken : State → ℕ → List ℕ
-taken state s = filter_map (λ name. number state.spaces name s) (names_in_use state.rows)
+taken state s = filter_map (λ name. number state.spaces name s) (in_use state)
 
 -- the row changed, if the name is its own
 abbrev pub on_row : Name → (Row → Row) → Row → Row

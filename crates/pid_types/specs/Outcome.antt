@@ -7,7 +7,8 @@ use Rattle.pid_types.specs.declared.reply.Reply.TheVariants.{Refused}
 use Rattle.pid_types.specs.declared.reply.Refusal.{Refusal}
 use Rattle.pid_types.specs.declared.reply.Refusal.TheVariants.{NoCaller}
 use Rattle.pid_types.specs.State.{State}
-use Rattle.pid_types.specs.Names.{taken, live_row}
+use Rattle.pid_types.specs.Names.{taken}
+use Rattle.pid_types.specs.Threads.{caller_of, as_thread}
 
 -- the state after a call, and the reply to it
 pub record Outcome : Type 0 where
@@ -50,6 +51,10 @@ abbrev pub refuse_if : State → Bool → Refusal → Outcome → Outcome
 refuse_if state true r o = refused state r
 refuse_if state false r o = o
 
--- the call of a live caller, by its root number
+-- the call of a process, by the root number of the thread that makes it
 abbrev pub by_caller : State → ℕ → (Row → Outcome) → Outcome
-by_caller state n call = for_found state (live_row state.rows n) NoCaller call
+by_caller state n call = for_found state (caller_of state n) NoCaller call
+
+-- the call of that thread
+abbrev pub by_thread : State → ℕ → (Row → Outcome) → Outcome
+by_thread state n call = by_caller state n (λ row. call (as_thread state n row))

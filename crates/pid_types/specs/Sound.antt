@@ -7,8 +7,9 @@ use Rattle.pid_types.specs.declared.plain.Control.{Control}
 use Rattle.pid_types.specs.Bounds.{greatest_limit}
 use Rattle.pid_types.specs.Membership.{IsIn}
 use Rattle.pid_types.specs.Chains.{climb}
+use Rattle.pid_types.specs.declared.plain.Thread.{Thread}
 use Rattle.pid_types.specs.State.{State}
-use Rattle.pid_types.specs.Names.{space_at, path_up, number, root_number, is_live, names_in_use}
+use Rattle.pid_types.specs.Names.{space_at, path_up, number, root_number, is_live, names_in_use, in_use}
 use Rattle.pid_types.specs.Controls.{control_at, control_path}
 use Rattle.pid_types.specs.Exit.{parent_number}
 
@@ -17,11 +18,10 @@ abbrev pub IsRising : List ℕ → Type 0
 IsRising [] = Unit {0}
 IsRising (n ∷ ns) = ((m : ℕ) → IsIn m ns → n < m) × IsRising ns
 
--- no number of a namespace names two: names in use that have one number in one namespace are one name
-abbrev pub HasDistinctNumbers : List Row → List Space → Type 0
-HasDistinctNumbers rows spaces =
-    (a b : Name) → IsIn a (names_in_use rows) → IsIn b (names_in_use rows)
-    → (s n : ℕ) → number spaces a s ≡ Some n → number spaces b s ≡ Some n → a ≡ b
+-- no number of a namespace names two: names of the list that have one number in one namespace are one name
+abbrev pub HasDistinctNumbers : List Name → List Space → Type 0
+HasDistinctNumbers names spaces =
+    (a b : Name) → IsIn a names → IsIn b names → (s n : ℕ) → number spaces a s ≡ Some n → number spaces b s ≡ Some n → a ≡ b
 
 -- the namespaces on the name's path are there, and it has one number in range for each
 pub record IsWellNumbered (spaces : List Space) (pid_max : ℕ) (name : Name) : Type 0 where
@@ -83,10 +83,26 @@ pub record HasGoodLimit (c : Control) : Type 0 where
   pub root : c.id ≡ 0 → c.limit ≡ None
   pub bounded : (limit : ℕ) → c.limit ≡ Some limit → limit ≤ greatest_limit
 
+-- a thread's process lives, in the thread's own namespace
+abbrev pub HasLiveProcess : List Row → Thread → Type 0
+HasLiveProcess rows t = (r : Row) × IsIn r rows × (r.name ≡ t.process) × (is_live r ≡ true) × (t.name.space ≡ r.name.space)
+
+-- and its name is no process's, group's or session's; its children's namespace and its home are good ones, as a row's are
+pub record IsGoodThread (rows : List Row) (spaces : List Space) (controls : List Control) (t : Thread) : Type 0 where
+  pub process : HasLiveProcess rows t
+  pub apart : IsIn t.name (names_in_use rows) → ⊥
+  pub children : (space_at spaces t.children_space ≡ None) ⊎ IsIn t.name.space (path_up spaces t.children_space)
+  pub home : (c : Control) × (control_at controls t.home ≡ Some c)
+
+-- a process whose first thread has left lives, and another thread of it runs
+abbrev pub IsGoodMark : List Row → List Thread → Name → Type 0
+IsGoodMark rows threads name =
+    ((r : Row) × IsIn r rows × (r.name ≡ name) × (is_live r ≡ true)) × ((t : Thread) × IsIn t threads × (t.process ≡ name))
+
 -- what a change of the state keeps before the sweep: all that a sound state is, but that a fallen namespace has a number in use
 pub record IsCoherent (state : State) : Type 0 where
-  pub distinct : HasDistinctNumbers state.rows state.spaces
-  pub numbered : (a : Name) → IsIn a (names_in_use state.rows) → IsWellNumbered state.spaces state.pid_max a
+  pub distinct : HasDistinctNumbers (in_use state) state.spaces
+  pub numbered : (a : Name) → IsIn a (in_use state) → IsWellNumbered state.spaces state.pid_max a
   pub parents : (r : Row) → IsIn r state.rows → HasGoodParents state.rows state.spaces r
   pub children : (r : Row) → IsIn r state.rows → HasGoodChildrenSpace state.spaces r
   pub root : RootStands state.spaces
@@ -98,11 +114,15 @@ pub record IsCoherent (state : State) : Type 0 where
   pub controls : IsTreeOfControls state.controls
   pub limits : (c : Control) → IsIn c state.controls → HasGoodLimit c
   pub homes : (r : Row) → IsIn r state.rows → (c : Control) × (control_at state.controls r.home ≡ Some c)
+  pub threads : (t : Thread) → IsIn t state.threads → IsGoodThread state.rows state.spaces state.controls t
+  pub threads_rise : IsRising (map (λ t. root_number t.name) state.threads)
+  pub left : (name : Name) → IsIn name state.left → IsGoodMark state.rows state.threads name
+  pub left_rise : IsRising (map root_number state.left)
 
 -- the state is sound: it is coherent, and each fallen namespace has a number in use
 pub record IsSound (state : State) : Type 0 where
   pub coherent : IsCoherent state
-  pub named : (s : Space) → IsIn s state.spaces → s.fallen ≡ true → (a : Name) × (n : ℕ) × IsIn a (names_in_use state.rows)
+  pub named : (s : Space) → IsIn s state.spaces → s.fallen ≡ true → (a : Name) × (n : ℕ) × IsIn a (in_use state)
       × (number state.spaces a s.id ≡ Some n)
 
 -- all ids of the state, each children's namespace among them, are below the stamp
@@ -110,3 +130,4 @@ pub record IsBelow (stamp : ℕ) (state : State) : Type 0 where
   pub spaces : (s : Space) → IsIn s state.spaces → s.id < stamp
   pub controls : (c : Control) → IsIn c state.controls → c.id < stamp
   pub children : (r : Row) → IsIn r state.rows → r.children_space < stamp
+  pub thread_children : (t : Thread) → IsIn t state.threads → t.children_space < stamp

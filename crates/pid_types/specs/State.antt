@@ -5,10 +5,14 @@ use Rattle.pid_types.specs.declared.plain.Row.{Row}
 use Rattle.pid_types.specs.declared.plain.Space.{Space}
 use Rattle.pid_types.specs.declared.plain.Control.{Control}
 use Rattle.pid_types.specs.declared.plain.Life.TheVariants.{Live}
+use Rattle.pid_types.specs.declared.plain.Thread.{Thread}
 
--- the tasks by their root numbers, the namespaces and the control groups by their ids, and the bound of all numbers
+-- the processes by their root numbers, the threads beside their first ones by theirs, the processes whose first thread has left while
+-- others run, the namespaces and the control groups by their ids, and the bound of all numbers
 pub record State : Type 0 where
   pub rows : List Row
+  pub threads : List Thread
+  pub left : List Name
   pub spaces : List Space
   pub controls : List Control
   pub pid_max : ℕ
@@ -35,6 +39,8 @@ root_init = record {
 abbrev pub root_state : ℕ → State
 root_state pid_max = record {
   rows = root_init ∷ [];
+  threads = [];
+  left = [];
   spaces = record { id = 0; parent = None; cursor = 2; fallen = false } ∷ [];
   controls = record { id = 0; parent = None; limit = None } ∷ [];
   pid_max = pid_max;

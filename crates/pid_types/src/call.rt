@@ -76,3 +76,24 @@ pub enum Call {
     /// `prctl(2)` with `PR_SET_CHILD_SUBREAPER`.
     SetSubreaper { caller: Pid, on: bool },
 }
+
+/// One call about threads.
+///
+/// `caller` is the root number of the thread that makes it, and must name a running thread of a live
+/// process. All other numbers are those of its process's namespace.
+#[derive(Clone, Copy, Debug, PartialEq, Eq)]
+pub enum ThreadCall {
+    /// `clone(2)` with `CLONE_THREAD`: one more thread of the caller's process.
+    NewThread { caller: Pid },
+    /// The end of the calling thread alone: `_exit(2)` as the system call. The status is the
+    /// process's where no other thread of it runs.
+    Leave { caller: Pid, status: u8 },
+    /// `gettid(2)`.
+    GetTid { caller: Pid },
+    /// The number of the target's process: `Tgid` of `proc_pid_status(5)`. A `target` of 0 names
+    /// nobody.
+    GetTgid { caller: Pid, target: Pid },
+    /// The least number at or above `from` that a thread beside first ones has, in the namespace of
+    /// the caller's process.
+    NextThread { caller: Pid, from: Pid },
+}

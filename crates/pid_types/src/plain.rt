@@ -51,6 +51,19 @@ pub struct Row {
     pub subreaper: bool,
 }
 
+/// One thread of a process beside its first one, whose name is the process's: `clone(2)` with
+/// `CLONE_THREAD`.
+#[derive(Clone, Debug, Drop, PartialEq, Eq)]
+pub struct Thread {
+    pub name: Name,
+    /// The name of its process.
+    pub process: Name,
+    /// The id of the control group that it is counted in.
+    pub home: u64,
+    /// The id of the namespace that its children go into. It may be one that was dropped since.
+    pub children_space: u64,
+}
+
 /// One namespace.
 #[derive(Clone, Copy, Debug, PartialEq, Eq)]
 pub struct Space {

@@ -1,4 +1,4 @@
--- What a fork draws, and the state that it makes.
+-- What a fork and a new thread draw, and the states that they make.
 use Rattle.std.proofs.Common.{◌≡◌, ℕ, ◌+◌, ◌<◌, Bool, true, false, List, [], ◌∷◌, ◌++◌, length, map, take, drop, get_or, Some, None, refl, sym, ap, ◌∙◌, inl, inr, drop-cons}
 use Rattle.std.specs.Prelude.{find, is_none, unwrap_or, ◌==◌, if◌then◌else◌}
 use Rattle.std.proofs.Math.Path.{fun_ext}
@@ -6,6 +6,7 @@ use Rattle.std.proofs.lemmas.Bool.{cases_Bool, eqb-true}
 use Rattle.std.proofs.lemmas.List.{take-append-drop, take_more, map-append}
 use Rattle.std.proofs.lemmas.List.Folds.{find-append}
 use Rattle.pid_types.specs.declared.plain.Row.{Row}
+use Rattle.pid_types.specs.declared.plain.Thread.{Thread}
 use Rattle.pid_types.specs.declared.plain.Space.{Space}
 use Rattle.pid_types.specs.declared.reply.Reply.TheVariants.{Forked}
 use Rattle.pid_types.specs.declared.reply.Refusal.TheVariants.{NoNumber, PidsLimit}
@@ -16,6 +17,7 @@ use Rattle.pid_types.specs.Draw.{draw}
 use Rattle.pid_types.specs.Controls.{passed_limit}
 use Rattle.pid_types.specs.Outcome.{changed}
 use Rattle.pid_types.specs.Fork.{drawn, with_cursors, insert_row, child_of, no_room, forked}
+use Rattle.pid_types.specs.Clone.{insert_thread, thread_of, threaded}
 use Rattle.plain_table.specs.Moved.{moved_by}
 
 -- where nothing before it passes, what passes is found
@@ -74,3 +76,11 @@ pub forked-planned : (state : State) (caller : Row) (t : ℕ) (path cursors : Li
     → forked state caller t ≡ changed (record state { rows = insert_row child state.rows; spaces = map (moved_by path cursors) state.spaces }) (Forked inner root)
 forked-planned state caller t path cursors child inner root is_path is_cursors is_child is_inner is_root =
     rw (is_inner, is_root, is_child, is_cursors, is_path, with_cursors-moved) refl
+
+-- the thread is there, and the cursors have moved
+pub threaded-planned : (state : State) (caller : Row) (path cursors : List ℕ) (new : Thread) (inner root : ℕ)
+    → path ≡ path_up state.spaces caller.name.space → cursors ≡ map (λ s. drawn state s + 1) path → new ≡ thread_of state caller
+    → inner ≡ number_or_zero state.spaces new.name caller.name.space → root ≡ root_number new.name
+    → threaded state caller ≡ changed (record state { threads = insert_thread new state.threads; spaces = map (moved_by path cursors) state.spaces }) (Forked inner root)
+threaded-planned state caller path cursors new inner root is_path is_cursors is_new is_inner is_root =
+    rw (is_inner, is_root, is_new, is_cursors, is_path, with_cursors-moved) refl

@@ -1,4 +1,4 @@
--- The least number, found by a walk over the rows.
+-- The least number, found by a walk over a list.
 use Rattle.std.proofs.Common.{◌≡◌, ℕ, ◌+◌, ◌<◌, Bool, true, false, List, [], ◌∷◌, ◌++◌, length, take, get_or, filter, Option, Some, None, refl, ap, ◌∙◌, arith, inl, inr}
 use Rattle.std.specs.Prelude.{nat_lt, option_and_then, filter_map, if◌then◌else◌}
 use Rattle.std.specs.Option.{option_map_or}
@@ -7,7 +7,6 @@ use Rattle.std.proofs.lemmas.Bool.{cases_Bool}
 use Rattle.std.proofs.lemmas.Bool.Decides.{nat_tests}
 use Rattle.std.proofs.lemmas.List.{take_more, append-nil}
 use Rattle.std.proofs.lemmas.List.Elements.{filter_map-append}
-use Rattle.pid_types.specs.declared.plain.Row.{Row}
 use Rattle.pid_types.specs.Chains.{least_of}
 use Rattle.plain_table.specs.Least.{lesser_number}
 
@@ -35,12 +34,12 @@ least_of-snoc (y ∷ ns) n = rw (least_of-snoc ns n) (ap Some (cases (least_of n
     cases (Some m) = lesser_number-three m y n
 
 -- a walk over a row that gives a number, and over one that gives none
-pub least_of-gives : (f : Row → Option ℕ) (rows : List Row) (i : ℕ) (row : Row) (n : ℕ) → i < length rows → row ≡ get_or rows i row → f row ≡ Some n
+pub least_of-gives : {A : Type 0} → (f : A → Option ℕ) (rows : List A) (i : ℕ) (row : A) (n : ℕ) → i < length rows → row ≡ get_or rows i row → f row ≡ Some n
     → least_of (filter_map f (take (i + 1) rows)) ≡ Some (lesser_number (least_of (filter_map f (take i rows))) n)
 least_of-gives f rows i row n below is gives =
     rw (take_more rows i row below, ← is, filter_map-append, gives) (least_of-snoc (filter_map f (take i rows)) n)
 
-pub least_of-skips : (f : Row → Option ℕ) (rows : List Row) (i : ℕ) (row : Row) → i < length rows → row ≡ get_or rows i row → f row ≡ None
+pub least_of-skips : {A : Type 0} → (f : A → Option ℕ) (rows : List A) (i : ℕ) (row : A) → i < length rows → row ≡ get_or rows i row → f row ≡ None
     → least_of (filter_map f (take (i + 1) rows)) ≡ least_of (filter_map f (take i rows))
 least_of-skips f rows i row below is gives = rw (take_more rows i row below, ← is, filter_map-append, gives, append-nil) refl
 
@@ -49,6 +48,6 @@ filter-cons_option p None ns = refl
 filter-cons_option p (Some n) ns = elim (cases_Bool (p n)) [ inl e ↦ rw e refl | inr e ↦ rw e refl ]
 
 -- the numbers that pass are those that pass at each row
-pub filter-filter_map : (p : ℕ → Bool) (f : Row → Option ℕ) (rows : List Row) → filter p (filter_map f rows) ≡ filter_map (λ row. option_and_then (λ n. if p n then Some n else None) (f row)) rows
+pub filter-filter_map : {A : Type 0} → (p : ℕ → Bool) (f : A → Option ℕ) (rows : List A) → filter p (filter_map f rows) ≡ filter_map (λ row. option_and_then (λ n. if p n then Some n else None) (f row)) rows
 filter-filter_map p f [] = refl
 filter-filter_map p f (row ∷ rows) = filter-cons_option p (f row) (filter_map f rows) ∙ ap (cons_option (option_and_then (λ n. if p n then Some n else None) (f row))) (filter-filter_map p f rows)

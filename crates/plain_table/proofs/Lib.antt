@@ -1,4 +1,4 @@
 pub mod Drawn
-pub mod InsertedRow
+pub mod Inserted
 pub mod LeastNumber
 pub mod LeastRow

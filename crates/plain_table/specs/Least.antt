@@ -4,6 +4,7 @@ use Rattle.std.specs.Option.{option_map_or}
 use Rattle.pid_types.specs.declared.call.Kind.{Kind}
 use Rattle.pid_types.specs.declared.call.Which.{Which}
 use Rattle.pid_types.specs.declared.plain.Row.{Row}
+use Rattle.pid_types.specs.declared.plain.Thread.{Thread}
 use Rattle.pid_types.specs.State.{State}
 use Rattle.pid_types.specs.Names.{number, number_or_zero, is_parent, is_live}
 use Rattle.pid_types.specs.Queries.{name_by}
@@ -26,3 +27,7 @@ number_from state kind s from row = option_and_then (λ n. if nat_le from n then
 -- the lesser of the number found before, if there is one, and this one
 abbrev pub lesser_number : Option ℕ → ℕ → ℕ
 lesser_number least n = option_map_or (λ m. if nat_lt n m then n else m) least n
+
+-- the thread's number in the namespace, if it is not below the given one
+abbrev pub thread_from : State → ℕ → ℕ → Thread → Option ℕ
+thread_from state s from t = option_and_then (λ n. if nat_le from n then Some n else None) (number state.spaces t.name s)

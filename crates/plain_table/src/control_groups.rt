@@ -1,8 +1,10 @@
 //! Control groups: made and removed as by `mkdir(2)` and `rmdir(2)`, limits as in `pids.max`,
 //! counts as in `pids.current`. A count looks through all tasks. Only making one takes memory.
-ghost use Rattle.std.specs.{Prelude.{◌≡◌, ◌==◌, ◌&&◌, Some, OnErr, OnOk, IfOk}, Option.{option_eq}, List.{list_any}};
+ghost use Rattle.std.specs.{Option.{option_eq}, List.{list_any}};
+ghost use Rattle.std.specs.Prelude.{◌≡◌, ◌==◌, ◌&&◌, not, Some, OnErr, OnOk, IfOk};
 ghost use Rattle.{
-  pid_types.specs.{Names.{is_live as is_live_row}, Changes.{without_control, with_limit, with_control}},
+  pid_types.specs.{Names.{is_live as is_live_row, root_number as root_of}, Threads.{has_left}},
+  pid_types.specs.Changes.{without_control, with_limit, with_control},
   pid_types.specs.Changes.{is_busy as is_busy_of, make_control as make_control_of, remove_control as remove_control_of},
   pid_types.specs.Changes.{set_limit as set_limit_of, count_tasks},
 };
@@ -11,7 +13,7 @@ use crate::edit::{AllButControl, Limits, Rehome, edit_all, keep};
 use crate::table::PlainTable;
 use pid_types::plain::Control;
 use pid_types::reply::{Refusal, Reply};
-use plain_view::names::is_live;
+use plain_view::names::{is_live, root_number};
 use std::alloc::AllocError;
 
 /// The greatest limit: the kernel's `PID_MAX_LIMIT`.
@@ -25,10 +27,20 @@ impl PlainTable {
         edit_all(&mut self.controls, &Limits { id, limit });
     }
 
-    fn has_live_task(&self, id: u64) -> bool
-        ensures { result ≡ list_any (λ row. (row.home == id) && is_live_row row) self.now.rows }
+    fn has_thread_in(&self, id: u64) -> bool
+        ensures { result ≡ list_any (λ t. t.home == id) self.now.threads }
     {
-        self.rows.iter().any(|row| row.home == id && is_live(row))
+        self.threads.iter().any(|t| t.home == id)
+    }
+
+    /// Whether the first thread of a live process, which has not left, is directly in it.
+    fn has_live_task(&self, id: u64) -> bool
+        ensures { result ≡ list_any
+            (λ row. not (has_left self.now (root_of row.name)) && ((row.home == id) && is_live_row row)) self.now.rows }
+    {
+        let view = self.view();
+        self.rows.iter().any(|row| !view.has_left(root_number(&row.name))
+            && (row.home == id && is_live(row)))
     }
 
     fn has_child_control(&self, id: u64) -> bool
@@ -37,12 +49,12 @@ impl PlainTable {
         self.controls.iter().any(|c| c.parent == Some(id))
     }
 
-    /// Whether a live task or a control group is directly in it.
+    /// Whether a running thread or a control group is directly in it.
     #[tactic(auto, unfolding(pid_types::specs::Changes::is_busy))]
     fn is_busy(&self, id: u64) -> bool
         ensures { result ≡ is_busy_of self.now id }
     {
-        self.has_live_task(id) || self.has_child_control(id)
+        self.has_thread_in(id) || self.has_live_task(id) || self.has_child_control(id)
     }
 
     /// Drops the control group, whose zombies go to the parent.

@@ -1,17 +1,20 @@
 //! Changes of each element of a list: the one loop that all changes of rows, namespaces and limits
 //! go through. A change of one task's row has the name of its definition in the model.
-ghost use Rattle.std.specs.Prelude.{◌≡◌, ◌≤◌, ◌==◌, map, filter, Bool, not, vec_len, vec_capacity};
+ghost use Rattle.std.specs.Prelude.{◌≡◌, ◌≤◌, ◌==◌, map, filter, Bool, true, not, vec_len, vec_capacity};
 ghost use Rattle.{
-  pid_types.specs.Names.{same_name, on_row},
-  pid_types.specs.Changes.{set_executed, set_home, rehome, set_children_space, set_mark, limited},
+  pid_types.specs.Names.{same_name, on_row, root_number as root_of},
+  pid_types.specs.Threads.{is_thread_of as is_thread_of_process},
+  pid_types.specs.Changes.{set_executed, set_home, set_thread_home, set_thread_space},
+  pid_types.specs.Changes.{rehome, set_children_space, set_mark, limited},
   pid_types.specs.Groups.{set_group, start_session},
-  pid_types.specs.Exit.{row_after_exit, row_after_fall, goes_in_fall, has_parent_within},
+  pid_types.specs.Exit.{row_after_exit, row_after_fall, goes_in_fall, has_parent_within, is_of},
   plain_table.specs.Moved.{moved_by},
 };
 
-use pid_types::plain::{Control, Ended, Life, Name, Row, Space};
-use plain_view::names::{copy_name, is_live, is_parent, is_same};
+use pid_types::plain::{Control, Ended, Life, Name, Row, Space, Thread};
+use plain_view::names::{copy_name, is_live, is_parent, is_same, root_number};
 use plain_view::spaces::beside;
+use plain_view::threads::is_thread_of;
 use plain_view::view::View;
 
 /// A change of one element.
@@ -51,14 +54,25 @@ impl<C: Edit<Row>> Edit<Row> for OnRow<'_, C> {
     }
 }
 
-/// The task has executed.
-#[derive(Drop)]
-pub struct SetExecuted;
+/// Changes the named task's row.
+pub fn edit_row<C: Edit<Row>>(rows: &mut [Row], name: &Name, change: &C)
+    ensures { rows.new ≡ map (on_row name.now (C.gives change.now)) rows.old }
+{
+    edit_all(rows, &OnRow { name, change });
+}
 
-impl Edit<Row> for SetExecuted {
-    ghost gives = { λ _ row. set_executed row };
+/// The process has executed, and goes on in the thread with the root number.
+#[derive(Drop)]
+pub struct SetExecuted<'a> {
+    pub view: &'a View<'a>,
+    pub number: u32,
+}
+
+impl Edit<Row> for SetExecuted<'_> {
+    ghost gives = { λ e row. set_executed e.view.now e.number row };
 
     fn edit(&self, row: &mut Row) {
+        self.view.as_thread(self.number, row);
         row.executed = true;
     }
 }
@@ -88,15 +102,54 @@ impl Edit<Row> for StartSession {
     }
 }
 
-/// The task goes into the control group.
+/// The process's first thread goes into the control group, unless it has left.
 #[derive(Drop)]
-pub struct SetHome(pub u64);
+pub struct SetHome<'a> {
+    pub view: &'a View<'a>,
+    pub home: u64,
+}
 
-impl Edit<Row> for SetHome {
-    ghost gives = { λ e row. set_home e.0 row };
+impl Edit<Row> for SetHome<'_> {
+    ghost gives = { λ e row. set_home e.view.now e.home row };
 
     fn edit(&self, row: &mut Row) {
-        row.home = self.0;
+        if !self.view.has_left(root_number(&row.name)) {
+            row.home = self.home;
+        }
+    }
+}
+
+/// The process's threads beside its first one go into the control group.
+#[derive(Drop)]
+pub struct SetThreadHome<'a> {
+    pub process: &'a Name,
+    pub home: u64,
+}
+
+impl Edit<Thread> for SetThreadHome<'_> {
+    ghost gives = { λ e t. set_thread_home e.process.now e.home t };
+
+    fn edit(&self, thread: &mut Thread) {
+        if is_thread_of(self.process, thread) {
+            thread.home = self.home;
+        }
+    }
+}
+
+/// The children of the thread with the root number go into the namespace.
+#[derive(Drop)]
+pub struct SetThreadSpace {
+    pub number: u32,
+    pub space: u64,
+}
+
+impl Edit<Thread> for SetThreadSpace {
+    ghost gives = { λ e t. set_thread_space e.number e.space t };
+
+    fn edit(&self, thread: &mut Thread) {
+        if root_number(&thread.name) == self.number {
+            thread.children_space = self.space;
+        }
     }
 }
 
@@ -267,6 +320,65 @@ impl Test<Control> for AllButControl {
 
     fn test(&self, control: &Control) -> bool {
         control.id != self.0
+    }
+}
+
+/// All threads but those of the process.
+#[derive(Drop)]
+pub struct NoThreadOf<'a>(pub &'a Name);
+
+impl Test<Thread> for NoThreadOf<'_> {
+    ghost passes = { λ t thread. not (is_thread_of_process t.0.now thread) };
+
+    fn test(&self, thread: &Thread) -> bool {
+        !is_thread_of(self.0, thread)
+    }
+}
+
+/// All threads but the one with the root number.
+#[derive(Drop)]
+pub struct AllButNumbered(pub u32);
+
+impl Test<Thread> for AllButNumbered {
+    ghost passes = { λ t thread. not (root_of thread.name == t.0) };
+
+    fn test(&self, thread: &Thread) -> bool {
+        root_number(&thread.name) != self.0
+    }
+}
+
+/// All names but the one.
+#[derive(Drop)]
+pub struct AllButName<'a>(pub &'a Name);
+
+impl Test<Name> for AllButName<'_> {
+    ghost passes = { λ t name. not (same_name name t.0.now) };
+
+    fn test(&self, name: &Name) -> bool {
+        !is_same(name, self.0)
+    }
+}
+
+/// What is not of the namespace, and of none inside it.
+#[derive(Drop)]
+pub struct Outside<'a> {
+    pub view: &'a View<'a>,
+    pub space: u64,
+}
+
+impl Test<Name> for Outside<'_> {
+    ghost passes = { λ t name. not (is_of t.view.now.spaces t.space name) };
+
+    fn test(&self, name: &Name) -> bool {
+        !self.view.is_within(name.space, self.space)
+    }
+}
+
+impl Test<Thread> for Outside<'_> {
+    ghost passes = { λ t thread. not (is_of t.view.now.spaces t.space thread.name) };
+
+    fn test(&self, thread: &Thread) -> bool {
+        !self.view.is_within(thread.name.space, self.space)
     }
 }
 

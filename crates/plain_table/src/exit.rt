@@ -3,13 +3,15 @@
 ghost use Rattle.std.specs.Prelude.{◌≡◌, ◌≤◌, [], length, map, filter, not, vec_capacity};
 ghost use Rattle.{
   pid_types.specs.Exit.{parent_number as parent_number_of, is_subreaper_in as is_subreaper_of},
-  pid_types.specs.Exit.{nearest_subreaper as nearest_subreaper_of, new_parent as new_parent_of, rows_after_exit},
+  pid_types.specs.Exit.{nearest_subreaper as nearest_subreaper_of, new_parent as new_parent_of},
+  pid_types.specs.Exit.{rows_after_exit, handed_over},
   pid_types.specs.Exit.{rows_after_fall, row_after_fall, goes_in_fall, fallen_below, fall as fall_of, exit as exit_of},
+  pid_types.specs.Exit.{is_of, ends as ends_of},
 };
 
-use crate::edit::{Ends, Falls, Stays, edit_all, keep};
+use crate::edit::{Ends, Falls, Outside, Stays, edit_all, keep};
 use crate::table::PlainTable;
-use pid_types::plain::{Ended, Name, Row, Space};
+use pid_types::plain::{Ended, Name, Row, Space, Thread};
 use pid_types::reply::{Refusal, Reply};
 use plain_view::names::{copy_name, root_number};
 use plain_view::view::View;
@@ -64,6 +66,15 @@ fn end_in_fall(rows: &mut Vec<Row>, view: &View<'_>, init: &Row, status: u8)
     edit_all(rows, &Falls { view, init, status });
 }
 
+/// Keeps the threads and the marks that are of no process in the namespace or inside it.
+fn keep_outside(threads: &mut Vec<Thread>, left: &mut Vec<Name>, view: &View<'_>, space: u64)
+    ensures threads { threads.new.items ≡ filter (λ t. not (is_of view.now.spaces space t.name)) threads.old.items }
+    ensures left { left.new.items ≡ filter (λ name. not (is_of view.now.spaces space name)) left.old.items }
+{
+    keep(threads, &Outside { view, space });
+    keep(left, &Outside { view, space });
+}
+
 impl PlainTable {
     fn task_count(&self) -> usize
         ensures { result ≡ length self.now.rows }
@@ -103,9 +114,9 @@ impl PlainTable {
         }
     }
 
-    /// The task has ended, and its children have a new parent.
+    /// The rows after the task ended, with its children handed on.
     #[tactic(auto, unfolding(pid_types::specs::Exit::rows_after_exit))]
-    fn end(&mut self, task: &Row, status: u8)
+    fn end_row(&mut self, task: &Row, status: u8)
         ensures { self.new ≡ record self.old { rows = rows_after_exit self.old task.now status } }
     {
         let heir = self.new_parent(task);
@@ -119,14 +130,35 @@ impl PlainTable {
         );
     }
 
+    /// The task has ended with all its threads, and its children have a new parent.
+    #[tactic(auto, unfolding(pid_types::specs::Exit::handed_over))]
+    fn end(&mut self, task: &Row, status: u8)
+        ensures { self.new ≡ handed_over self.old task.now status }
+    {
+        self.end_row(task, status);
+        self.drop_threads(&task.name);
+    }
+
     /// The members of the init's namespace have ended.
     #[tactic(auto, unfolding(pid_types::specs::Exit::rows_after_fall))]
     fn end_members(&mut self, init: &Row, status: u8)
         ensures { self.new ≡ record self.old { rows = rows_after_fall self.old init.now status } }
     {
         // No tasks: they are lent to the change, and who is a member is told by namespaces alone.
-        let view = View::new(&[], &self.spaces, &self.controls, self.pid_max);
+        let view = View::new(&[], &[], &[], &self.spaces, &self.controls, self.pid_max);
         end_in_fall(&mut self.rows, &view, init, status);
+    }
+
+    /// The threads of the namespace and of those inside it have ended.
+    fn end_threads(&mut self, fallen: u64)
+        ensures { self.new ≡ record self.old {
+          threads = filter (λ t. not (is_of self.old.spaces fallen t.name)) self.old.threads;
+          left = filter (λ name. not (is_of self.old.spaces fallen name)) self.old.left;
+        } }
+    {
+        // No tasks: they are lent to the change, and what is below a namespace is told by namespaces alone.
+        let view = View::new(&[], &[], &[], &self.spaces, &self.controls, self.pid_max);
+        keep_outside(&mut self.threads, &mut self.left, &view, fallen);
     }
 
     /// The namespace and those below it have fallen.
@@ -134,7 +166,7 @@ impl PlainTable {
         ensures { self.new ≡ record self.old { spaces = map (fallen_below self.old.spaces fallen) self.old.spaces } }
     {
         // No tasks: what is below a namespace is told by namespaces alone.
-        let view = View::new(&[], &self.spaces, &self.controls, self.pid_max);
+        let view = View::new(&[], &[], &[], &self.spaces, &self.controls, self.pid_max);
         push_fallen(&mut self.kept, &view, &self.spaces, fallen);
         mem::swap(&mut self.spaces, &mut self.kept);
         self.kept.clear();
@@ -146,28 +178,38 @@ impl PlainTable {
         ensures { self.new ≡ fall_of self.old init.now status }
     {
         self.end_members(init, status);
+        self.end_threads(init.name.space);
         self.fall_from(init.name.space);
     }
 
-    /// `_exit(2)`: the task is a zombie until its parent waits, and its children have a new parent.
-    /// The exit of a namespace's init ends all its members, and the namespace falls.
+    /// The process has ended, and its namespace if it is the init there.
+    pub(crate) fn ends(&mut self, task: &Row, status: u8) -> Reply
+        ensures state { self.new ≡ (ends_of self.old status task.now).state }
+        ensures reply { result ≡ (ends_of self.old status task.now).reply }
+    {
+        if root_number(&task.name) == 1 {
+            return Reply::Refused(Refusal::RootInit);
+        }
+        if self.view().is_numbered(&task.name, task.name.space, 1) {
+            self.fall(task, status);
+        } else {
+            self.end(task, status);
+        }
+        self.sweep();
+        Reply::Done
+    }
+
+    /// `_exit(2)` by any thread: the process is a zombie until its parent waits, and its children
+    /// have a new parent. The exit of a namespace's init ends all its members, and the namespace
+    /// falls.
     #[tactic(auto, unfolding(pid_types::specs::Exit::exit))]
     pub fn exit(&mut self, caller: u32, status: u8) -> Reply
         ensures state { self.new ≡ (exit_of self.old caller status).state }
         ensures reply { result ≡ (exit_of self.old caller status).reply }
     {
-        let Some(task) = self.find_live(caller) else {
+        let Some(task) = self.find_caller(caller) else {
             return Reply::Refused(Refusal::NoCaller);
         };
-        if root_number(&task.name) == 1 {
-            return Reply::Refused(Refusal::RootInit);
-        }
-        if self.view().is_numbered(&task.name, task.name.space, 1) {
-            self.fall(&task, status);
-        } else {
-            self.end(&task, status);
-        }
-        self.sweep();
-        Reply::Done
+        self.ends(&task, status)
     }
 }

@@ -4,17 +4,17 @@
 //! neither a refusal nor want of memory changes anything. A draw looks through all tasks for each
 //! number that it tries. That is one number or a few as long as most are free, and all of them, up
 //! to twice, where none is.
-ghost use Rattle.std.specs.Prelude.{◌≡◌, ◌≤◌, ◌<◌, ◌+◌, ◌++◌, map, find, is_none, nat_lt, position, length, Some, None};
-ghost use Rattle.std.specs.Prelude.{MatchResult, OnOk, OnErr, IfOk, IfSome, unwrap_or, vec_len, vec_capacity};
+ghost use Rattle.std.specs.Prelude.{◌≡◌, ◌≤◌, ◌<◌, ◌+◌, ◌++◌, map, find, is_none, length, Some, None};
+ghost use Rattle.std.specs.Prelude.{MatchResult, OnOk, OnErr, IfOk, vec_len, vec_capacity};
 ghost use Rattle.std.specs.Prelude.{option_to_list};
 ghost use Rattle.{
-  pid_types.specs.{State.{State}, Names.{root_number as root_of, path_up}, Draw.{draw}, Outcome.{refused, changed}},
-  pid_types.specs.Fork.{drawn, insert_row, child_of as child_row, no_room, forked, with_space, fork as fork_of},
+  pid_types.specs.{State.{State}, Names.{path_up}, Draw.{draw}, Outcome.{refused, changed}},
+  pid_types.specs.Fork.{drawn, new_name, child_of as child_row, no_room, forked, with_space, fork as fork_of},
   plain_table.specs.Planned.{with_planned, after_plan},
 };
 
 use crate::edit::{MovesCursors, edit_all};
-use crate::find::copy_row;
+use crate::place::insert_placed;
 use crate::table::PlainTable;
 use arrayvec::ArrayVec;
 use pid_types::plain::{LEVELS, Life, Name, Row, Space};
@@ -44,6 +44,14 @@ struct Draws {
     cursors: ArrayVec<u32, LEVELS>,
 }
 
+/// A new name, the namespaces that gave its numbers, innermost first, and their cursors afterwards.
+#[derive(Debug, Drop)]
+pub struct DrawnName {
+    pub name: Name,
+    pub path: ArrayVec<u64, LEVELS>,
+    pub cursors: ArrayVec<u32, LEVELS>,
+}
+
 /// Draws a number in each namespace of the path, or says which has none.
 fn draw_along(view: &View<'_>, path: &[u64]) -> Result<Draws, u64>
     requires { length path.now ≤ 33 }
@@ -65,14 +73,46 @@ fn draw_along(view: &View<'_>, path: &[u64]) -> Result<Draws, u64>
     Ok(Draws { numbers, cursors })
 }
 
-/// The caller's child in the namespace, with these numbers, innermost first.
-fn child_of(caller: &Row, space: u64, mut numbers: ArrayVec<u32, LEVELS>) -> Row
+/// A name in the namespace with these numbers, innermost first.
+fn name_in(space: u64, mut numbers: ArrayVec<u32, LEVELS>) -> Name
     ensures { (state : State) → numbers.items ≡ map (drawn state) (path_up state.spaces space)
-        → result ≡ child_row state caller.now space }
+        → result ≡ new_name state space }
 {
     numbers.as_mut_slice().reverse();
+    Name { space, numbers }
+}
+
+/// Draws a name in the namespace for the caller's new task, or says why it can have none.
+pub(crate) fn draw_name(view: &View<'_>, caller: &Row, space: u64) -> Result<DrawnName, Refusal>
+    ensures { MatchResult result
+        (λ d. (no_room view.now caller.now space ≡ None) × (d.path.items ≡ path_up view.now.spaces space)
+        × (d.cursors.items ≡ map (λ s. drawn view.now s + 1) d.path.items)
+        × (d.name ≡ new_name view.now space))
+        (λ r. no_room view.now caller.now space ≡ Some r) }
+{
+    let path = view.path_up(space);
+    let draws = match draw_along(view, path.as_slice()) {
+        Ok(draws) => draws,
+        Err(full) => return Err(Refusal::NoNumber(full)),
+    };
+    if let Some(control) = view.passed_limit(caller.home) {
+        return Err(Refusal::PidsLimit(control));
+    }
+    let Draws { numbers, cursors } = draws;
+    let name = name_in(space, numbers);
+    Ok(DrawnName {
+        name,
+        path,
+        cursors,
+    })
+}
+
+/// The caller's child in the namespace, with this name.
+fn child_of(caller: &Row, space: u64, name: Name) -> Row
+    ensures { (state : State) → name ≡ new_name state space → result ≡ child_row state caller.now space }
+{
     Row {
-        name: Name { space, numbers },
+        name,
         parent: Some(copy_name(&caller.name)),
         group: copy_name(&caller.group),
         session: copy_name(&caller.session),
@@ -91,16 +131,12 @@ fn plan(view: &View<'_>, caller: &Row, space: u64) -> Result<ForkPlan, Refusal>
         × (forked view.now caller.now space ≡ changed (with_planned view.now p) p.reply))
         (λ r. no_room view.now caller.now space ≡ Some r) }
 {
-    let path = view.path_up(space);
-    let draws = match draw_along(view, path.as_slice()) {
-        Ok(draws) => draws,
-        Err(full) => return Err(Refusal::NoNumber(full)),
-    };
-    if let Some(control) = view.passed_limit(caller.home) {
-        return Err(Refusal::PidsLimit(control));
-    }
-    let Draws { numbers, cursors } = draws;
-    let child = child_of(caller, space, numbers);
+    let DrawnName {
+        name,
+        path,
+        cursors,
+    } = draw_name(view, caller, space)?;
+    let child = child_of(caller, space, name);
     let reply = Reply::Forked {
         child: view.number_or_zero(&child.name, caller.name.space),
         root: root_number(&child.name),
@@ -112,33 +148,6 @@ fn plan(view: &View<'_>, caller: &Row, space: u64) -> Result<ForkPlan, Refusal>
         added: None,
         reply,
     })
-}
-
-/// The first place at which a row has a greater root number.
-fn first_above(rows: &[Row], number: u32) -> Option<usize>
-    ensures place { result ≡ position (λ row. nat_lt number (root_of row.name)) rows.now }
-    ensures within { IfSome result (λ place. place < length rows.now) }
-{
-    rows.iter().position(|row| number < root_number(&row.name))
-}
-
-/// The place of a row with the root number among the rows.
-fn place_of(rows: &[Row], number: u32) -> usize
-    ensures place { result ≡ unwrap_or (position (λ row. nat_lt number (root_of row.name)) rows.now) (length rows.now) }
-    ensures within { result ≤ length rows.now }
-{
-    first_above(rows, number).unwrap_or(rows.len())
-}
-
-/// Adds the child in its place.
-fn insert_child(rows: &mut Vec<Row>, child: Row)
-    requires { vec_len rows.old < vec_capacity rows.old }
-    ensures { rows.new.items ≡ insert_row child rows.old.items }
-{
-    let place = place_of(rows, root_number(&child.name));
-    let Ok(()) = rows.insert(place, child) else {
-        unreachable!()
-    };
 }
 
 /// Adds the namespace, if there is one.
@@ -162,9 +171,10 @@ impl PlainTable {
             (λ p. fork_of self.now stamp caller new_space ≡ changed (after_plan self.now p) p.reply)
             (λ r. fork_of self.now stamp caller new_space ≡ refused self.now r) }
     {
-        let Some(row) = self.find_live(caller) else {
+        let Some(process) = self.find_caller(caller) else {
             return Err(Refusal::NoCaller);
         };
+        let row = self.as_thread(caller, process);
         let space = row.children_space;
         if new_space && self.view().level(space) >= 32 {
             return Err(Refusal::TooDeep);
@@ -198,6 +208,8 @@ impl PlainTable {
         };
         let view = View::with_space(
             &self.rows,
+            &self.threads,
+            &self.left,
             &self.spaces,
             added,
             &self.controls,
@@ -223,7 +235,7 @@ impl PlainTable {
         self.rows.try_reserve(1)?;
         self.spaces.try_reserve(1)?;
         self.kept.try_reserve(self.spaces.len() + 1)?;
-        insert_child(&mut self.rows, child);
+        insert_placed(&mut self.rows, child);
         push_added(&mut self.spaces, added);
         edit_all(
             &mut self.spaces,

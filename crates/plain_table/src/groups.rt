@@ -1,10 +1,11 @@
 //! Process groups and sessions: `setpgid(2)` and `setsid(2)`. They look through all tasks, and take
 //! no memory.
-ghost use Rattle.std.specs.Prelude.{◌≡◌, OnOk, IfErr, MatchResult};
+ghost use Rattle.std.specs.Prelude.{◌≡◌, is_some, MatchResult};
 ghost use Rattle.{
-  pid_types.specs.Groups.{set_group, has_members as has_members_of, session_group as session_group_of},
+  pid_types.specs.Groups.{set_group, has_members as has_members_of, session_group as session_group_of, is_no_leader},
   pid_types.specs.Groups.{group_for as group_for_of, target_of as target_number, set_group_of, set_pgid as set_pgid_of},
   pid_types.specs.{Groups.{set_sid as set_sid_of}, Names.{with_row}, Outcome.{refused, changed}},
+  pid_types.specs.Threads.{thread_numbered},
 };
 
 use crate::edit::{SetGroup, StartSession};
@@ -28,9 +29,25 @@ impl PlainTable {
     {
         match u32::try_from(pid) {
             Ok(0) => Some(copy_row(caller)),
-            Ok(number) => self.find_task(caller.name.space, number),
+            Ok(number) => self.find_process(caller.name.space, number),
             Err(_) => None,
         }
+    }
+
+    /// Whether the number names a thread that is no process's first one.
+    fn is_no_leader(&self, caller: &Row, pid: i32) -> bool
+        ensures { result ≡ is_no_leader self.now caller.now pid }
+    {
+        match u32::try_from(pid) {
+            Ok(number) => self.is_thread(caller.name.space, number) && number != 0,
+            Err(_) => false,
+        }
+    }
+
+    fn is_thread(&self, space: u64, number: u32) -> bool
+        ensures { result ≡ is_some (thread_numbered self.now space number) }
+    {
+        self.view().thread_numbered(space, number).is_some()
     }
 
     /// The group with the number in the caller's namespace, if some task of the caller's session is
@@ -97,7 +114,7 @@ impl PlainTable {
         ensures state { self.new ≡ (set_pgid_of self.old caller pid pgid).state }
         ensures reply { result ≡ (set_pgid_of self.old caller pid pgid).reply }
     {
-        let Some(row) = self.find_live(caller) else {
+        let Some(row) = self.find_caller(caller) else {
             return Reply::Refused(Refusal::NoCaller);
         };
         if pgid < 0 {
@@ -106,6 +123,9 @@ impl PlainTable {
         let Some(target) = self.target_of(&row, pid) else {
             return Reply::Refused(Refusal::NoTask);
         };
+        if self.is_no_leader(&row, pid) {
+            return Reply::Refused(Refusal::BadGroup);
+        }
         match self.new_group(&row, &target, pgid) {
             Ok(group) => {
                 self.change_row(&target.name, &SetGroup(&group));
@@ -122,7 +142,7 @@ impl PlainTable {
         ensures state { self.new ≡ (set_sid_of self.old caller).state }
         ensures reply { result ≡ (set_sid_of self.old caller).reply }
     {
-        let Some(row) = self.find_live(caller) else {
+        let Some(row) = self.find_caller(caller) else {
             return Reply::Refused(Refusal::NoCaller);
         };
         if self.has_members(&row.name) {

@@ -1,9 +1,10 @@
-//! The queries: `getpid(2)`, `getppid(2)`, `getpgid(2)`, `getsid(2)`, `NSpid` of
-//! `proc_pid_status(5)`, and the next number in use. They look through all tasks, take no memory
+//! The queries: `getpid(2)`, `gettid(2)`, `getppid(2)`, `getpgid(2)`, `getsid(2)`, `Tgid` and `NSpid`
+//! of `proc_pid_status(5)`. They look through all tasks, take no memory
 //! and change nothing.
 ghost use Rattle.std.specs.Prelude.{◌≡◌};
 ghost use Rattle.pid_types.specs.Queries.{get_pid as get_pid_of, get_ppid as get_ppid_of, get_pgid as get_pgid_of};
-ghost use Rattle.pid_types.specs.Queries.{get_sid as get_sid_of, ns_pid as ns_pid_of, next as next_of, self_or_task};
+ghost use Rattle.pid_types.specs.Queries.{get_sid as get_sid_of, ns_pid as ns_pid_of, self_or_task};
+ghost use Rattle.pid_types.specs.Queries.{get_tid as get_tid_of, get_tgid as get_tgid_of};
 
 use crate::table::PlainTable;
 use pid_types::plain::Row;
@@ -15,7 +16,7 @@ impl PlainTable {
     pub fn get_pid(&self, caller: u32) -> Reply
         ensures { result ≡ get_pid_of self.now caller }
     {
-        let Some(row) = self.find_live(caller) else {
+        let Some(row) = self.find_caller(caller) else {
             return Reply::Refused(Refusal::NoCaller);
         };
         Reply::Number(self.view().number_or_zero(&row.name, row.name.space))
@@ -26,7 +27,7 @@ impl PlainTable {
     pub fn get_ppid(&self, caller: u32) -> Reply
         ensures { result ≡ get_ppid_of self.now caller }
     {
-        let Some(row) = self.find_live(caller) else {
+        let Some(row) = self.find_caller(caller) else {
             return Reply::Refused(Refusal::NoCaller);
         };
         match &row.parent {
@@ -42,7 +43,7 @@ impl PlainTable {
         if pid == 0 {
             Some(crate::find::copy_row(caller))
         } else {
-            self.find_task(caller.name.space, pid)
+            self.find_process(caller.name.space, pid)
         }
     }
 
@@ -51,7 +52,7 @@ impl PlainTable {
     pub fn get_pgid(&self, caller: u32, pid: u32) -> Reply
         ensures { result ≡ get_pgid_of self.now caller pid }
     {
-        let Some(row) = self.find_live(caller) else {
+        let Some(row) = self.find_caller(caller) else {
             return Reply::Refused(Refusal::NoCaller);
         };
         let Some(task) = self.self_or_task(&row, pid) else {
@@ -65,7 +66,7 @@ impl PlainTable {
     pub fn get_sid(&self, caller: u32, pid: u32) -> Reply
         ensures { result ≡ get_sid_of self.now caller pid }
     {
-        let Some(row) = self.find_live(caller) else {
+        let Some(row) = self.find_caller(caller) else {
             return Reply::Refused(Refusal::NoCaller);
         };
         let Some(task) = self.self_or_task(&row, pid) else {
@@ -79,12 +80,45 @@ impl PlainTable {
     pub fn ns_pid(&self, caller: u32, target: u32) -> Reply
         ensures { result ≡ ns_pid_of self.now caller target }
     {
-        let Some(row) = self.find_live(caller) else {
+        let Some(row) = self.find_caller(caller) else {
             return Reply::Refused(Refusal::NoCaller);
         };
-        let Some(task) = self.find_task(row.name.space, target) else {
+        let view = self.view();
+        if let Some(thread) = view.thread_numbered(row.name.space, target) {
+            return Reply::Levels(view.numbers_from(&thread.name, row.name.space));
+        }
+        let Some(task) = view.task_at(row.name.space, target) else {
             return Reply::Refused(Refusal::NoTask);
         };
-        Reply::Levels(self.view().numbers_from(&task.name, row.name.space))
+        Reply::Levels(view.numbers_from(&task.name, row.name.space))
+    }
+
+    /// `gettid(2)`: the number of the calling thread.
+    #[tactic(auto, unfolding(pid_types::specs::Queries::get_tid))]
+    pub fn get_tid(&self, caller: u32) -> Reply
+        ensures { result ≡ get_tid_of self.now caller }
+    {
+        let Some(row) = self.find_caller(caller) else {
+            return Reply::Refused(Refusal::NoCaller);
+        };
+        let view = self.view();
+        match view.thread_at(caller) {
+            Some(thread) => Reply::Number(view.number_or_zero(&thread.name, row.name.space)),
+            None => Reply::Number(view.number_or_zero(&row.name, row.name.space)),
+        }
+    }
+
+    /// `Tgid` of `proc_pid_status(5)`: the number of the target's process.
+    #[tactic(auto, unfolding(pid_types::specs::Queries::get_tgid))]
+    pub fn get_tgid(&self, caller: u32, target: u32) -> Reply
+        ensures { result ≡ get_tgid_of self.now caller target }
+    {
+        let Some(row) = self.find_caller(caller) else {
+            return Reply::Refused(Refusal::NoCaller);
+        };
+        let Some(process) = self.find_process(row.name.space, target) else {
+            return Reply::Refused(Refusal::NoTask);
+        };
+        Reply::Number(self.view().number_or_zero(&process.name, row.name.space))
     }
 }

@@ -1,11 +1,12 @@
-//! Any call: [`PlainTable::step`] picks the method that makes it. The record makes all its calls
+//! Any call: [`PlainTable::step`] picks the method that makes it, and [`PlainTable::thread_step`] that
+//! of a call about threads. The record makes all its calls
 //! so. The methods, of which each stands in the module of its subject, may be called one by one
 //! too.
 ghost use Rattle.std.specs.Prelude.{◌≡◌, IsTrue, OnOk, OnErr, IfOk};
-ghost use Rattle.pid_types.specs.Step.{step, may_grow};
+ghost use Rattle.pid_types.specs.{Step.{step, may_grow}, ThreadStep.{thread_step}};
 
 use crate::table::PlainTable;
-use pid_types::call::Call;
+use pid_types::call::{Call, ThreadCall};
 use pid_types::reply::Reply;
 use std::alloc::AllocError;
 
@@ -38,6 +39,23 @@ impl PlainTable {
             Call::NsPid { caller, target } => Ok(self.ns_pid(caller, target)),
             Call::Next { caller, kind, from } => Ok(self.next(caller, kind, from)),
             Call::Count { id } => Ok(self.count(id)),
+        }
+    }
+
+    /// Makes the call about threads. An error is want of memory for [`ThreadCall::NewThread`] or
+    /// [`ThreadCall::Leave`].
+    #[tactic(auto, unfolding(pid_types::specs::ThreadStep::thread_step))]
+    pub fn thread_step(&mut self, call: ThreadCall) -> Result<Reply, AllocError>
+        ensures state { OnOk result (self.new ≡ (thread_step self.old call).state) }
+        ensures reply { IfOk result (λ reply. reply ≡ (thread_step self.old call).reply) }
+        ensures err { OnErr result (self.new ≡ self.old) }
+    {
+        match call {
+            ThreadCall::NewThread { caller } => self.thread(caller),
+            ThreadCall::Leave { caller, status } => self.leave(caller, status),
+            ThreadCall::GetTid { caller } => Ok(self.get_tid(caller)),
+            ThreadCall::GetTgid { caller, target } => Ok(self.get_tgid(caller, target)),
+            ThreadCall::NextThread { caller, from } => Ok(self.next_thread(caller, from)),
         }
     }
 }

@@ -1,13 +1,13 @@
 //! The table, its making, its sweep and its snapshot.
-ghost use Rattle.std.specs.Prelude.{◌≡◌, ◌≤◌, ◌∷◌, [], length, vec_len, vec_capacity, filter, map, not, IfOk, OnOk};
-ghost use Rattle.std.specs.Prelude.{OnErr};
+ghost use Rattle.std.specs.Prelude.{◌≡◌, ◌≤◌, ◌∷◌, [], length, vec_len, vec_capacity, filter, map, not, IfOk};
+ghost use Rattle.std.specs.Prelude.{◌↔◌, IsTrue, IfSome, Ok, None};
 ghost use Rattle.pid_types.specs.State.{root_state, root_name as root_name_of, root_init as root_init_of};
 ghost use Rattle.pid_types.specs.{Names.{with_row}, Outcome.{sweep, is_dead}, Shown.{Shows, with_count as counted}};
 
-use crate::edit::{Edit, OnRow, edit_all};
+use crate::edit::{Edit, edit_row};
 use arrayvec::ArrayVec;
 use pid_types::config::Config;
-use pid_types::plain::{Control, ControlRow, Life, Name, Plain, Row, Space};
+use pid_types::plain::{Control, ControlRow, Life, Name, Plain, Row, Space, Thread};
 use plain_view::names::copy_name;
 use plain_view::view::View;
 use std::alloc::{AllocError, Global};
@@ -18,6 +18,8 @@ use std::mem;
 #[derive(Debug, Drop)]
 pub struct PlainTable {
     pub(crate) rows: Vec<Row>,
+    pub(crate) threads: Vec<Thread>,
+    pub(crate) left: Vec<Name>,
     pub(crate) spaces: Vec<Space>,
     pub(crate) controls: Vec<Control>,
     pub(crate) pid_max: u32,
@@ -33,6 +35,8 @@ impl Model for PlainTable {
 
     ghost view = { λ t. record {
       rows = t.rows.items;
+      threads = t.threads.items;
+      left = t.left.items;
       spaces = t.spaces.items;
       controls = t.controls.items;
       pid_max = t.pid_max;
@@ -105,6 +109,8 @@ impl PlainTable {
         kept.try_reserve(1)?;
         Ok(PlainTable {
             rows: vec![in alloc; root_init()]?,
+            threads: Vec::new(alloc),
+            left: Vec::new(alloc),
             spaces: vec![in alloc; root]?,
             controls: vec![in alloc; control]?,
             pid_max: config.pid_max(),
@@ -130,7 +136,14 @@ impl PlainTable {
     pub(crate) fn view(&self) -> View<'_>
         ensures { result ≡ self.now }
     {
-        View::new(&self.rows, &self.spaces, &self.controls, self.pid_max)
+        View::new(
+            &self.rows,
+            &self.threads,
+            &self.left,
+            &self.spaces,
+            &self.controls,
+            self.pid_max,
+        )
     }
 
     /// Changes the named task's row.
@@ -138,14 +151,21 @@ impl PlainTable {
     pub(crate) fn change_row<C: Edit<Row>>(&mut self, name: &Name, change: &C)
         ensures { self.new ≡ with_row self.old name.now (C.gives change.now) }
     {
-        edit_all(&mut self.rows, &OnRow { name, change });
+        edit_row(&mut self.rows, name, change);
     }
 
     /// Drops the dead namespaces.
     pub(crate) fn sweep(&mut self)
         ensures { self.new ≡ sweep self.old }
     {
-        let view = View::new(&self.rows, &self.spaces, &self.controls, self.pid_max);
+        let view = View::new(
+            &self.rows,
+            &self.threads,
+            &self.left,
+            &self.spaces,
+            &self.controls,
+            self.pid_max,
+        );
         keep_living(&mut self.kept, &view, &self.spaces);
         mem::swap(&mut self.spaces, &mut self.kept);
         self.kept.clear();
@@ -153,16 +173,28 @@ impl PlainTable {
 }
 
 impl PlainTable {
-    /// The plain state, with the count of each control group.
-    pub fn snapshot(&self) -> Result<Plain, AllocError>
-        ensures { IfOk result (Shows self.now) }
+    /// Whether each process is its first thread alone.
+    fn is_without_threads(&self) -> bool
+        ensures { IsTrue result ↔ ((self.now.threads ≡ []) × (self.now.left ≡ [])) }
     {
-        Ok(Plain {
+        self.threads.is_empty() && self.left.is_empty()
+    }
+
+    /// The plain state, with the count of each control group. There is none where a process has
+    /// another thread than its first one, or where that one has left: a snapshot shows no threads.
+    pub fn snapshot(&self) -> Result<Option<Plain>, AllocError>
+        ensures shown { IfOk result (λ shown. IfSome shown (Shows self.now)) }
+        ensures none { result ≡ Ok None → self.now.threads ≡ [] → self.now.left ≡ [] → ⊥ }
+    {
+        if !self.is_without_threads() {
+            return Ok(None);
+        }
+        Ok(Some(Plain {
             pid_max: self.pid_max,
             rows: self.rows.clone()?,
             spaces: self.spaces.clone()?,
             controls: self.control_rows()?,
-        })
+        }))
     }
 
     /// The control groups with their counts.

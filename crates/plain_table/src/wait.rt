@@ -95,7 +95,7 @@ impl PlainTable {
         ensures state { self.new ≡ (wait_of self.old caller which).state }
         ensures reply { result ≡ (wait_of self.old caller which).reply }
     {
-        let Some(row) = self.find_live(caller) else {
+        let Some(row) = self.find_caller(caller) else {
             return Reply::Refused(Refusal::NoCaller);
         };
         if self.count_matching(&row, which) == 0 {

@@ -1,6 +1,6 @@
 //! Control groups, and how many tasks they hold. A count is added up anew each time, over all
 //! tasks.
-ghost use Rattle.std.specs.Prelude.{◌≡◌, ◌<◌, ◌^◌, option_copied};
+ghost use Rattle.std.specs.Prelude.{◌≡◌, ◌<◌, ◌+◌, ◌^◌, filter, length, option_copied};
 ghost use Rattle.{
   pid_types.specs.Controls.{control_at, parent_control as parent_of, control_path as path_of, is_below as is_below_of},
   pid_types.specs.Controls.{count as count_of, is_limited_below as is_limited_below_of},
@@ -47,16 +47,33 @@ impl View<'_> {
         self.control_path(id).contains(&above)
     }
 
-    /// How many tasks the control group and those below it have.
-    #[tactic(auto, unfolding(pid_types::specs::Controls::count))]
-    pub fn count(&self, id: u64) -> u64
-        ensures value { result ≡ count_of self.now id }
+    fn count_threads(&self, id: u64) -> u64
+        ensures value { result ≡ length (filter (λ t. is_below_of self.now.controls t.home id) self.now.threads) }
+        ensures small { result < 2 ^ 63 }
+    {
+        self.threads
+            .iter()
+            .filter(|t| self.is_below(t.home, id))
+            .count() as u64
+    }
+
+    fn count_rows(&self, id: u64) -> u64
+        ensures value { result ≡ length (filter (λ row. is_below_of self.now.controls row.home id) self.now.rows) }
         ensures small { result < 2 ^ 63 }
     {
         self.rows
             .iter()
             .filter(|row| self.is_below(row.home, id))
             .count() as u64
+    }
+
+    /// How many tasks the control group and those below it have, threads among them.
+    #[tactic(auto, unfolding(pid_types::specs::Controls::count))]
+    pub fn count(&self, id: u64) -> u64
+        ensures value { result ≡ count_of self.now id }
+        ensures small { result + 1 < 2 ^ 64 }
+    {
+        self.count_threads(id) + self.count_rows(id)
     }
 
     /// Whether the control group has a limit below the number.

@@ -1,10 +1,11 @@
 //! Which numbers are in use, and which comes next: the cyclic draw of the kernel's
-//! `idr_alloc_cyclic`. Whether a number is in use is asked of each task's three names, so a draw
-//! costs the tasks times the numbers that it tries.
-ghost use Rattle.std.specs.Prelude.{◌≡◌, ◌<◌, ◌+◌, ◌^◌, ◌==◌, IfSome, nat_lt, length, Some, None, if◌then◌else◌};
+//! `idr_alloc_cyclic`. Whether a number is in use is asked of each thread's name and of each
+//! task's three names, so a draw costs the tasks and threads times the numbers that it tries.
+ghost use Rattle.std.specs.Prelude.{◌≡◌, ◌<◌, ◌+◌, ◌^◌, ◌==◌, IfSome, is_none, nat_lt, length};
+ghost use Rattle.std.specs.Prelude.{Some, None, if◌then◌else◌};
 ghost use Rattle.std.specs.List.{list_any, list_all};
 ghost use Rattle.{
-  pid_types.specs.{Chains.{contains}, Names.{taken}},
+  pid_types.specs.{Chains.{contains}, Names.{taken, number as number_of, is_numbered}},
   pid_types.specs.Draw.{least_free, restart as restart_of, draw as draw_of, cursor_of},
   pid_types.specs.Outcome.{is_dead as is_dead_of},
   plain_view.specs.Uses.{uses_number, uses_none},
@@ -39,6 +40,22 @@ impl View<'_> {
             && self.number(&row.session, space).is_none()
     }
 
+    fn some_thread_has(&self, space: u64, number: u32) -> bool
+        ensures { result ≡ list_any (λ t. is_numbered self.now.spaces t.name space number) self.now.threads }
+    {
+        self.threads
+            .iter()
+            .any(|t| self.is_numbered(&t.name, space, number))
+    }
+
+    fn no_thread_has(&self, space: u64) -> bool
+        ensures { result ≡ list_all (λ t. is_none (number_of self.now.spaces t.name space)) self.now.threads }
+    {
+        self.threads
+            .iter()
+            .all(|t| self.number(&t.name, space).is_none())
+    }
+
     fn some_row_uses(&self, space: u64, number: u32) -> bool
         ensures { result ≡ list_any (uses_number self.now.spaces space number) self.now.rows }
     {
@@ -53,18 +70,18 @@ impl View<'_> {
         self.rows.iter().all(|row| self.uses_none(row, space))
     }
 
-    /// Whether the number is in use in the namespace, as task, group or session.
+    /// Whether the number is in use in the namespace, as thread, task, group or session.
     pub fn is_taken(&self, space: u64, number: u32) -> bool
         ensures { result ≡ contains (taken self.now space) number }
     {
-        self.some_row_uses(space, number)
+        self.some_thread_has(space, number) || self.some_row_uses(space, number)
     }
 
     /// Whether no number is in use in the namespace.
     pub fn is_unused(&self, space: u64) -> bool
         ensures { result ≡ (length (taken self.now space) == 0) }
     {
-        self.all_rows_use_none(space)
+        self.no_thread_has(space) && self.all_rows_use_none(space)
     }
 
     /// Whether the namespace has fallen and nothing has a number in it any more.

@@ -2,8 +2,8 @@
 //! model has them. They are as slow as the lists are long, and need no memory.
 //!
 //! A [`view::View`] is the lists, and perhaps one namespace that is about to be added. The other
-//! modules are its look-ups: names, rows by their numbers, namespaces and numbers in them, the
-//! draw, and control groups. Nothing here changes a table.
+//! modules are its look-ups: names, rows by their numbers, threads and their processes, namespaces
+//! and numbers in them, the draw, and control groups. Nothing here changes a table.
 #![tactic(auto)]
 
 pub mod controls;
@@ -11,4 +11,5 @@ pub mod draw;
 pub mod names;
 pub mod rows;
 pub mod spaces;
+pub mod threads;
 pub mod view;

@@ -1,9 +1,9 @@
 //! The tasks that a number names.
 ghost use Rattle.std.specs.Prelude.{◌≡◌, option_copied};
-ghost use Rattle.pid_types.specs.Names.{row_at as row_with, live_row as live_row_with, task_numbered};
+ghost use Rattle.pid_types.specs.Names.{row_at as row_with, task_numbered};
 ghost use Rattle.pid_types.specs.Names.{is_member as is_member_of};
 
-use crate::names::{is_live, root_number};
+use crate::names::root_number;
 use crate::view::View;
 use pid_types::plain::Row;
 
@@ -15,15 +15,6 @@ impl View<'_> {
         self.rows
             .iter()
             .find(|row| root_number(&row.name) == number)
-    }
-
-    /// The live task with the root number.
-    pub fn live_row(&self, number: u32) -> Option<&Row>
-        ensures { option_copied result ≡ live_row_with self.now.rows number }
-    {
-        self.rows
-            .iter()
-            .find(|row| root_number(&row.name) == number && is_live(row))
     }
 
     /// The task with the number in the namespace, zombies among them.

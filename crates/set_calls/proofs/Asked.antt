@@ -10,9 +10,10 @@ use Rattle.pid_types.specs.declared.reply.Refusal.{Refusal}
 use Rattle.pid_types.specs.declared.reply.Refusal.TheVariants.{NoCaller, BadGroup, NoTask, OtherSession, Executed, IsLeader, NoGroup}
 use Rattle.pid_types.specs.declared.reply.Reply.TheVariants.{Done}
 use Rattle.pid_types.specs.State.{State}
+use Rattle.pid_types.specs.Threads.{caller_of}
 use Rattle.pid_types.specs.Names.{is_parent, live_row, same_name, with_row}
 use Rattle.pid_types.specs.Outcome.{Outcome, changed, refused, for_found, refuse_if}
-use Rattle.pid_types.specs.Groups.{is_negative, target_of, session_group, group_for, set_group, set_group_of, set_pgid}
+use Rattle.pid_types.specs.Groups.{is_negative, is_no_leader, target_of, session_group, group_for, set_group, set_group_of, set_pgid}
 use Rattle.pid_numbers.specs.Numbering.{Numbering, Identifier, identifier_at, id_at}
 use Rattle.task_tree.specs.declared.Task.{Task}
 use Rattle.task_tree.specs.Tree.{task_at, parent_of}
@@ -35,10 +36,11 @@ use Rattle.task_table.proofs.Seated.{group-name, session-name, who, one-key}
 use Rattle.set_calls.proofs.InSession.{session-group-is}
 
 -- nobody asks
-pub unknown-caller : (state : State) (n : ℕ) (pid pgid : ℤ) → live_row state.rows n ≡ None → set_pgid state n pid pgid ≡ refused state NoCaller
+pub unknown-caller : (state : State) (n : ℕ) (pid pgid : ℤ) → caller_of state n ≡ None → set_pgid state n pid pgid ≡ refused state NoCaller
 unfolding set_pgid
 unknown-caller state n pid pgid none =
-    ap (λ o. for_found state o NoCaller (λ caller. refuse_if state (is_negative pgid) BadGroup (for_found state (target_of state caller pid) NoTask (λ t. set_group_of state caller t pgid)))) none
+    ap (λ o. for_found state o NoCaller (λ caller. refuse_if state (is_negative pgid) BadGroup (for_found state (target_of state caller pid) NoTask (λ t.
+    refuse_if state (is_no_leader state caller pid) BadGroup (set_group_of state caller t pgid))))) none
 
 -- who asks is a task, of its session and its namespace, and the target is whom the number names
 pub record IsAsk (s : Store) (own : Task) (pid : ℤ) (ask : GroupAsk) : Type 0 where
@@ -243,9 +245,17 @@ module _ (s : Store) (l : IsLawful s) (w : IsWhole s) (own : Task) (pid : ℤ) (
   pub answered : (n : ℕ) → live_row state.rows n ≡ Some row → set_pgid state n pid ask.pgid ≡ comes ask.target (setpgid_answer s.members b ask)
   unfolding set_pgid
   answered n live =
-      ap (λ o. for_found state o NoCaller (λ caller. refuse_if state (is_negative ask.pgid) BadGroup (for_found state (target_of state caller pid) NoTask (λ t. set_group_of state caller t ask.pgid)))) live
+      ap (λ o. for_found state o NoCaller (λ caller. refuse_if state (is_negative ask.pgid) BadGroup (for_found state (target_of state caller pid) NoTask (λ t.
+      refuse_if state (is_no_leader state caller pid) BadGroup (set_group_of state caller t ask.pgid))))) live
+      ∙ ap (λ x. refuse_if state (is_negative ask.pgid) BadGroup (for_found state (target_of state row pid) NoTask (λ t.
+      refuse_if state x BadGroup (set_group_of state row t ask.pgid)))) (leads pid)
       ∙ test (is_negative ask.pgid)
     where
+      -- a store has no threads, so no number is that of another thread than the first one
+      leads : (p : ℤ) → is_no_leader state row p ≡ false
+      leads (pos m) = refl
+      leads (negsuc m) = refl
+
       none : (o : Option Target) → refused state BadGroup ≡ comes o (Err BadGroup)
       none None = refl
       none (Some target) = refl

@@ -45,7 +45,7 @@ module _ (s s' : Store) (l : IsLawful s) (l' : IsLawful s') (rest : s' ≡ recor
       → sweep (record (state_of s) { rows = map (in_home f) (state_of s).rows; controls = s'.charges.controls }) ≡ state_of s'
   rehomed f homes =
       swept s.numbering l.numbering s' l' (subst (IsLess s.numbering) (sym (ap (λ x. x.numbering) rest)) (IsLess-same s.numbering l.numbering))
-      (record (state_of s) { rows = map (in_home f) (state_of s).rows; controls = s'.charges.controls }) (sym (rows-rehomed f homes)) refl refl (sym (ap (λ x. x.numbering.pid_max) rest))
+      (record (state_of s) { rows = map (in_home f) (state_of s).rows; controls = s'.charges.controls }) (sym (rows-rehomed f homes)) refl refl refl refl (sym (ap (λ x. x.numbering.pid_max) rest))
 
   -- where each task is in the control group that it was in, these alone are different
   pub unmoved : ((k : ℕ) (t : Task) → task_at s.tree k ≡ Some t → home_at s'.charges t.home ≡ home_at s.charges t.home) → sweep (record (state_of s) { controls = s'.charges.controls }) ≡ state_of s'

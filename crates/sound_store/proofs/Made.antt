@@ -77,7 +77,7 @@ module _ (s : Store) (l : IsLawful s) where
 
   -- ---- what the laws give
 
-  distinct : HasDistinctNumbers (state_of s).rows (state_of s).spaces
+  distinct : HasDistinctNumbers (names_in_use (state_of s).rows) (state_of s).spaces
   distinct a b in_a in_b i n at_a at_b =
       let j = used-from s l a in_a in
       let k = used-from s l b in_b in
@@ -350,6 +350,10 @@ whole-from s l spaces_good controls_good tasks_good ways = record {
       controls = controls_good.tree;
       limits = controls_good.limits;
       homes = homes s l tasks_good;
+      threads = λ t i. absurd i;
+      threads_rise = tt;
+      left = λ name i. absurd i;
+      left_rise = tt;
     };
     named = named_by s l;
   };

@@ -4,7 +4,7 @@ use Rattle.std.proofs.lemmas.Bool.{false_from_ne_true}
 use Rattle.pid_types.specs.declared.plain.Space.{Space}
 use Rattle.pid_types.specs.Bounds.{deepest_space}
 use Rattle.pid_types.specs.Membership.{IsIn}
-use Rattle.pid_types.specs.Names.{names_in_use, number, path_up}
+use Rattle.pid_types.specs.Names.{in_use, names_in_use, number, path_up}
 use Rattle.pid_types.specs.Sound.{IsSound}
 use Rattle.pid_types.specs.State.{State}
 use Rattle.model_laws.proofs.Chains.{climb-None}
@@ -17,6 +17,7 @@ use Rattle.task_table.specs.Lawful.{HasLaws, IsLawful}
 use Rattle.task_table.specs.Store.{Store}
 use Rattle.task_table.specs.View.{parent_id, space_of, spaces_of, state_of}
 use Rattle.task_table.proofs.Around.{around-in, space-from, space-in}
+use Rattle.task_table.proofs.Alone.{in_use-rows}
 use Rattle.task_table.proofs.InUse.{used-from}
 use Rattle.task_table.proofs.Keys.{id_for, id_of_there, number-is_key, on_path}
 use Rattle.table_build.specs.Bare.{AreFlagged, MayHaveFalls, undrawn, steady}
@@ -77,8 +78,9 @@ used-as b l i s n e =
     go u at used true t true gs false fs = inr (inr (record { key = i; has = e; used = ap (is_used_as Session) at ∙ ap not fs }))
     go u at used true t true gs true fs = absurd (let z = sym used ∙ ap (λ x. not (x && ((u.groups == 0) && (u.sessions == 0)))) t ∙ ap (λ x. not (x && (u.sessions == 0))) gs ∙ ap not fs in cc)
 
--- in a store of a sound state each line may have what it says
+-- in a store of a sound state without threads each line may have what it says
 module _ (s : Store) (l : IsLawful s) (text : State) (sound : IsSound text) (listed : map steady (spaces_of s.numbering) ≡ map undrawn text.spaces) (rows : (state_of s).rows ≡ text.rows)
+    (threads : text.threads ≡ [])
     (flags : List Bool) (flagged : AreFlagged s.numbering text.spaces (length text.spaces) flags) where
   -- the namespace with the first key is the root
   root-id : (x : Space) → IsIn x text.spaces → id_at s.numbering 0 ≡ Some x.id → x.id ≡ 0
@@ -99,7 +101,8 @@ module _ (s : Store) (l : IsLawful s) (text : State) (sound : IsSound text) (lis
     there = let k = line-there s.numbering l.numbering text.spaces listed x i in (k.0, k.1);
     fallen = λ c e fell.
         let n = sound.named x i fell in
-        let k = used-from s l n.0 (subst (λ rs. IsIn n.0 (names_in_use rs)) (sym rows) n.2) in
+        let by_row : in_use text ≡ names_in_use (state_of s).rows = in_use-rows text threads ∙ ap names_in_use (sym rows) in
+        let k = used-from s l n.0 (subst (IsIn n.0) by_row n.2) in
         let same = same-number (spaces_of s.numbering) text.spaces listed n.0 x.id ∙ n.3 in
         let at = sym (number-is_key s.numbering l.numbering c x.id k.0 k.1 e k.2) ∙ ap (λ a. number (spaces_of s.numbering) a x.id) (sym k.3) ∙ same in
         ((λ zero. let root = root-id x i (ap (id_at s.numbering) (sym zero) ∙ e) in let z = sym fell ∙ sound.coherent.root x i root in absurd (cc)), k.0, n.1, at);

@@ -15,7 +15,7 @@ use Rattle.pid_types.specs.State.{State}
 use Rattle.model_laws.proofs.Chains.{IsIn-climb_first}
 use Rattle.model_laws.proofs.Forests.{at-map, chain-map}
 use Rattle.model_laws.proofs.Lists.{IsIn-from_contains, IsIn-from_filter_map, IsIn-reverse}
-use Rattle.model_laws.proofs.Names.{number-same_path}
+use Rattle.model_laws.proofs.Names.{number-same_path, used_by_row}
 use Rattle.pid_numbers.specs.Numbering.{Numbering, Identifier, id_at, identifier_at, number_in, number_of, path_at, taken_in}
 use Rattle.task_tree.specs.Tree.{task_at}
 use Rattle.task_table.specs.Store.{Store}
@@ -84,7 +84,7 @@ numbered b (Some u) q n e = (u, refl)
 
 module _ (s : Store) (l : IsLawful s) (text : State) (sound : IsSound text) (part : IsPart s text) (name : Name) (used : IsIn name (names_in_use text.rows)) where
   well : IsWellNumbered text.spaces text.pid_max name
-  well = sound.coherent.numbered name used
+  well = sound.coherent.numbered name (used_by_row text name used)
 
   -- the name's namespace has a key
   home : (k : ℕ) × (id_at s.numbering k ≡ Some name.space)
@@ -105,7 +105,7 @@ module _ (s : Store) (l : IsLawful s) (text : State) (sound : IsSound text) (par
   one-name : (k q i n : ℕ) (u : Identifier) → IsIn (name_at s.numbering k) (names_in_use text.rows) → id_at s.numbering q ≡ Some i → identifier_at s.numbering k ≡ Some u
       → number_of s.numbering k q ≡ Some n → number text.spaces name i ≡ Some n → name_at s.numbering k ≡ name
   one-name k q i n u inside e at theirs ours =
-      sound.coherent.distinct (name_at s.numbering k) name inside used i n
+      sound.coherent.distinct (name_at s.numbering k) name (used_by_row text (name_at s.numbering k) inside) (used_by_row text name used) i n
       (sym (same-number (spaces_of s.numbering) text.spaces part.places.spaces (name_at s.numbering k) i) ∙ number-is_key s.numbering l.numbering q i k u e at ∙ theirs) ours
 
   module _ (borne : AreBorne s) where

@@ -32,6 +32,7 @@ fn push_said(text: &mut Vec<u8>, table: &PidTable, stamp: u64) -> Result<(), All
     ensures text { OnOk result (text.new.items ≡ text.old.items ++ dump_text stamp table.now) }
     ensures held { OnOk result (IsHeldState table.now) }
 {
+    table.no_threads();
     push_head(text, table.pid_max(), stamp)?;
     push_tasks(text, table)?;
     let spaces = table.spaces()?;

@@ -1,5 +1,5 @@
 -- Snapshots of sound states: their texts are read back.
-use Rattle.std.proofs.Common.{◌≡◌, ◌≢◌, inl, inr, ℕ, ◌<◌, List, [], ◌∷◌, length, Option, Some, None, IfSome, Result, Ok, Err, IfOk, IfErr, refl, sym, ap, ◌∙◌, subst, arith}
+use Rattle.std.proofs.Common.{◌≡◌, ◌≢◌, inl, inr, ℕ, ◌<◌, List, [], ◌∷◌, ◌++◌, length, map, Option, Some, None, IfSome, Result, Ok, Err, IfOk, IfErr, refl, sym, ap, ◌∙◌, subst, arith}
 use Rattle.pid_types.specs.declared.plain.Name.{Name}
 use Rattle.pid_types.specs.declared.plain.Row.{Row}
 use Rattle.pid_types.specs.declared.plain.Space.{Space}
@@ -27,6 +27,10 @@ in_use (q ∷ rows) r (inl same) =
     (inl (ap (λ (x : Row). x.name) same), inr (inl (ap (λ (x : Row). x.group) same)), inr (inr (inl (ap (λ (x : Row). x.session) same))))
 in_use (q ∷ rows) r (inr there) = let below = in_use rows r there in (inr (inr (inr below.0)), inr (inr (inr below.1)), inr (inr (inr below.2)))
 
+behind : (a : Name) (ahead names : List Name) → IsIn a names → IsIn a (ahead ++ names)
+behind a [] names there = there
+behind a (x ∷ ahead) names there = inr (behind a ahead names there)
+
 -- a path has at least the namespace itself
 some_path : (spaces : List Space) (id : ℕ) → 0 < length (path_up spaces id)
 unfolding path_up climb
@@ -48,7 +52,7 @@ has_numbers state sound r there =
     }
   where
     well : (name : Name) → IsIn name (names_in_use state.rows) → IsNumbered name
-    well name used = numbered state.spaces state.pid_max name (sound.coherent.numbered name used)
+    well name used = numbered state.spaces state.pid_max name (sound.coherent.numbered name (behind name (map (λ t. t.name) state.threads) (names_in_use state.rows) used))
 
     of_parent : (p : Option Name) → r.parent ≡ p → IfSome p IsNumbered
     of_parent None is = tt
@@ -59,6 +63,8 @@ has_numbers state sound r there =
 pub words_of_state : (state : State) → IsHeldState state → IsStateOfWords state
 words_of_state state held = record {
   rows = λ r there. words_of_row r (held.rows r there);
+  threads = held.threads;
+  left = held.left;
   spaces = λ s there. words_of_space s (held.spaces s there);
   controls = λ g there. words_of_control g (held.controls g there);
   pid_max = word_of_small state.pid_max held.pid_max;

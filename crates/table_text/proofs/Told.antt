@@ -1,10 +1,12 @@
 -- Equal texts are of one state.
 use Rattle.std.proofs.Common.{◌≡◌, inl, inr, ℕ, List, [], ◌∷◌, ◌++◌, map, refl, sym, ap, ◌∙◌, lit<, append_assoc}
 use Rattle.std.specs.List.{flat_map}
+use Rattle.pid_types.specs.declared.plain.Name.{Name}
 use Rattle.pid_types.specs.declared.plain.Row.{Row}
 use Rattle.pid_types.specs.declared.plain.Space.{Space}
 use Rattle.pid_types.specs.declared.plain.Control.{Control}
 use Rattle.pid_types.specs.declared.plain.Plain.{Plain}
+use Rattle.pid_types.specs.declared.plain.Thread.{Thread}
 use Rattle.pid_types.specs.State.{State}
 use Rattle.pid_types.specs.Shown.{Shows, with_count}
 use Rattle.pid_script.specs.Lists.{space_line}
@@ -18,16 +20,17 @@ pub uncounted : (state : State) (controls : List Control) → map control_shown 
 uncounted state [] = refl
 uncounted state (c ∷ controls) = ap (λ rest. c ∷ rest) (uncounted state controls)
 
-abbrev state_of : List Row → List Space → List Control → ℕ → State
-state_of rows spaces controls pid_max = record { rows = rows; spaces = spaces; controls = controls; pid_max = pid_max }
+abbrev state_of : List Row → List Thread → List Name → List Space → List Control → ℕ → State
+state_of rows threads left spaces controls pid_max =
+    record { rows = rows; threads = threads; left = left; spaces = spaces; controls = controls; pid_max = pid_max }
 
 -- a snapshot has the state that it shows
 pub state_in-shown : (state : State) (plain : Plain) → Shows state plain → state_shown plain ≡ state
 state_in-shown state plain shows =
-    let r = shows.rows in let s = shows.spaces in let m = shows.pid_max in
+    let r = shows.rows in let t = shows.threads in let l = shows.left in let s = shows.spaces in let m = shows.pid_max in
     let c = ap (map control_shown) shows.controls ∙ uncounted state state.controls in
-    let same : state_of plain.rows.items plain.spaces.items (map control_shown plain.controls.items) plain.pid_max
-    ≡ state_of state.rows state.spaces state.controls state.pid_max = cc (r, s, c, m) in
+    let same : state_of plain.rows.items [] [] plain.spaces.items (map control_shown plain.controls.items) plain.pid_max
+    ≡ state_of state.rows state.threads state.left state.spaces state.controls state.pid_max = cc (r, t, l, s, c, m) in
     same
 
 pub end_front : (c : ℕ) (text : List ℕ) → IsApart c 101 → GoesOnBut c (end_line text)
@@ -57,5 +60,8 @@ text_told m n a b word_m word_n words_a words_b e =
     let controls = lines_told control_text_line 99 control_begins IsControlOfWords control_told a.controls b.controls _ _ spaces.1 words_a.controls words_b.controls
     (end_front 99 ends_a (inl (lit< tt))) (end_front 99 ends_b (inl (lit< tt))) in
     let r = rows.0 in let s = spaces.0 in let c = controls.0 in let p = head.0 in
-    let same : state_of a.rows a.spaces a.controls a.pid_max ≡ state_of b.rows b.spaces b.controls b.pid_max = cc (r, s, c, p) in
+    let t : a.threads ≡ b.threads = words_a.threads ∙ sym words_b.threads in
+    let l : a.left ≡ b.left = words_a.left ∙ sym words_b.left in
+    let same : state_of a.rows a.threads a.left a.spaces a.controls a.pid_max ≡ state_of b.rows b.threads b.left b.spaces b.controls b.pid_max =
+    cc (r, t, l, s, c, p) in
     (head.1, same)

@@ -1,5 +1,5 @@
 -- Numbers that a machine word holds, as all numbers of a table are.
-use Rattle.std.specs.Prelude.{ℕ, ◌<◌, ◌^◌, List, IfSome}
+use Rattle.std.specs.Prelude.{◌≡◌, ℕ, ◌<◌, ◌^◌, List, [], IfSome}
 use Rattle.pid_types.specs.declared.plain.Name.{Name}
 use Rattle.pid_types.specs.declared.plain.Row.{Row}
 use Rattle.pid_types.specs.declared.plain.Space.{Space}
@@ -51,9 +51,11 @@ pub record IsControlOfWords (control : Control) : Type 0 where
   pub parent : IfSome control.parent IsWord
   pub limit : IfSome control.limit IsWord
 
--- the numbers of a state
+-- the numbers of a state, which has no threads: a text has no lines of threads
 pub record IsStateOfWords (state : State) : Type 0 where
   pub rows : Each IsRowOfWords state.rows
+  pub threads : state.threads ≡ []
+  pub left : state.left ≡ []
   pub spaces : Each IsSpaceOfWords state.spaces
   pub controls : Each IsControlOfWords state.controls
   pub pid_max : IsWord state.pid_max

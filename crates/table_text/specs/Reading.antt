@@ -125,9 +125,11 @@ pub record IsHeldControl (control : Control) : Type 0 where
   pub parent : IfSome control.parent IsWord
   pub limit : IfSome control.limit IsSmall
 
--- a state whose numbers fit
+-- a state whose numbers fit, and which has no threads: a text has no lines of threads
 pub record IsHeldState (state : State) : Type 0 where
   pub rows : Each IsHeldRow state.rows
+  pub threads : state.threads ≡ []
+  pub left : state.left ≡ []
   pub spaces : Each IsHeldSpace state.spaces
   pub controls : Each IsHeldControl state.controls
   pub pid_max : IsSmall state.pid_max
@@ -156,10 +158,12 @@ LacksLines {A} IsHeld line byte text at =
 abbrev pub IsNoText : List ℕ → Type 0
 IsNoText text = (stamp : ℕ) (state : State) → IsWord stamp → IsHeldState state → text ≡ text_of stamp state → ⊥
 
--- the state that a text says
+-- the state that a text says: one without threads
 abbrev pub saved_state : Saved → State
 saved_state saved = record {
   rows = saved.rows;
+  threads = [];
+  left = [];
   spaces = saved.spaces.items;
   controls = saved.controls.items;
   pid_max = saved.pid_max;

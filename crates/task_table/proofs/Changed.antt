@@ -58,13 +58,14 @@ IsLess-same b h = record {
         there None e = absurd (cc)
         there (Some t) e = refl
 
--- a state whose rows are a store's, and whose namespaces those before some went, is swept to the store's
-pub swept : (m : Numbering) → HasLaws m → (s' : Store) → IsLawful s' → IsLess m s'.numbering → (state : State) → state.rows ≡ (state_of s').rows → state.spaces ≡ spaces_of m
+-- a state without threads whose rows are a store's, and whose namespaces those before some went, is swept to the store's
+pub swept : (m : Numbering) → HasLaws m → (s' : Store) → IsLawful s' → IsLess m s'.numbering → (state : State) → state.rows ≡ (state_of s').rows → state.threads ≡ [] → state.left ≡ []
+    → state.spaces ≡ spaces_of m
     → state.controls ≡ s'.charges.controls → state.pid_max ≡ s'.numbering.pid_max → sweep state ≡ state_of s'
 unfolding sweep
-swept m h s' l' less state rows spaces controls bound =
-    let left = spaces-swept m h s' l' less state rows spaces in
-    λ i. record { rows = rows i; spaces = left i; controls = controls i; pid_max = bound i }
+swept m h s' l' less state rows threads left spaces controls bound =
+    let stay = spaces-swept m h s' l' less state rows threads spaces in
+    λ i. record { rows = rows i; threads = threads i; left = left i; spaces = stay i; controls = controls i; pid_max = bound i }
 
 -- the names of who is left are as they were
 abbrev pub KeepsNames : Numbering → Numbering → Type 0
@@ -124,7 +125,7 @@ module _ (s s' : Store) (l : IsLawful s) (l' : IsLawful s') (k : ℕ) (t t' : Ta
       swept s.numbering l.numbering s' l' (subst (IsLess s.numbering) (sym r.numbering) (IsLess-same s.numbering l.numbering)) (record (state_of s) { rows = map (on_row (name_at s.numbering k) h) (state_of s).rows })
       (sym (rows-on s s' l l' (ap (λ b. b.pid_max) r.numbering) (λ j v e. ap (λ b. number_of b j 0) r.numbering) k t h at
       (ap (option_map (row_of s' k)) task-set ∙ ap Some (row-same k t' ∙ sym changes)) others_same))
-      refl (sym r.controls) (sym (ap (λ b. b.pid_max) r.numbering))
+      refl refl refl (sym r.controls) (sym (ap (λ b. b.pid_max) r.numbering))
 
   -- parents are tasks as before
   pub parents-retasked : ((j p : ℕ) → parent_of s.tree j ≡ Some p → IsSome (task_at s.tree p)) → (j p : ℕ) → parent_of s'.tree j ≡ Some p → IsSome (task_at s'.tree p)
@@ -165,7 +166,7 @@ pub same-state : (s s' : Store) → IsSame s s' → state_of s' ≡ state_of s
 same-state s s' e =
     let rows : collect (row_numbered s' 0) 0 s'.numbering.pid_max ≡ collect (row_numbered s 0) 0 s.numbering.pid_max =
     ap (collect (row_numbered s' 0) 0) (ap (λ b. b.pid_max) e.numbering) ∙ collect-same (row_numbered s 0) (row_numbered s' 0) 0 s.numbering.pid_max (λ n _. numbered n) in
-    λ i. record { rows = rows i; spaces = spaces_of (e.numbering i); controls = (e.charges i).controls; pid_max = (e.numbering i).pid_max }
+    λ i. record { rows = rows i; threads = []; left = []; spaces = spaces_of (e.numbering i); controls = (e.charges i).controls; pid_max = (e.numbering i).pid_max }
   where
     row : (k : ℕ) (t : Task) → row_of s' k t ≡ row_of s k t
     row k t = row-ext (row_of s' k t) (row_of s k t) (ap (λ b. name_at b k) e.numbering)

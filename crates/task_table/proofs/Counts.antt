@@ -1,5 +1,5 @@
 -- The counts of a store's control groups are the model's.
-use Rattle.std.proofs.Common.{◌≡◌, ◌≢◌, inl, inr, ℕ, zero, suc, ◌+◌, ◌<◌, Bool, true, false, not, ◌==◌, ◌&&◌, List, ◌∷◌, length, count_by, cond, Option, Some, None, if◌then◌else◌, refl, sym, ap, ◌∙◌, arith, option_map, option_and_then}
+use Rattle.std.proofs.Common.{◌≡◌, ◌≢◌, inl, inr, ℕ, zero, suc, ◌+◌, ◌<◌, Bool, true, false, not, ◌==◌, ◌&&◌, List, ◌∷◌, length, filter, count_by, cond, Option, Some, None, if◌then◌else◌, refl, sym, ap, ◌∙◌, arith, option_map, option_and_then}
 use Rattle.std.specs.Option.{option_map_or, option_eq}
 use Rattle.std.proofs.lemmas.Bool.{cases_eq, cases_lt, eq-eqb}
 use Rattle.std.proofs.lemmas.List.{get_or_past}
@@ -156,6 +156,7 @@ module _ (s : Store) (l : IsLawful s) where
       (λ n. option_map_or (λ r. cond {A = ℕ} (is_below s.charges.controls r.home id) 1 0) (row_numbered s 0 n) 0) (λ n. each (key_numbered s.numbering 0 n))
       ∙ sym (count-all (λ r. is_below s.charges.controls r.home id) (row_numbered s 0) s.numbering.pid_max)
       ∙ sym (length-filter (λ r. is_below s.charges.controls r.home id) (state_of s).rows)
+      ∙ no_threads (length (filter (λ r. is_below s.charges.controls r.home id) (state_of s).rows))
     where
       each : (o : Option ℕ) → option_map_or (λ t. cond {A = ℕ} (is_below s.charges.controls (home_id s.charges t.home) id) 1 0) (option_and_then (task_at s.tree) o) 0
           ≡ option_map_or (λ r. cond {A = ℕ} (is_below s.charges.controls r.home id) 1 0) (option_and_then (row_with s) o) 0
@@ -166,3 +167,6 @@ module _ (s : Store) (l : IsLawful s) where
               ≡ option_map_or (λ (r : Row). cond {A = ℕ} (is_below s.charges.controls r.home id) 1 0) (option_map (row_of s k) o) 0
           at None = refl
           at (Some t) = refl
+
+      no_threads : (rows : ℕ) → rows ≡ 0 + rows
+      no_threads rows = omega arith

@@ -1,5 +1,6 @@
 pub mod Collects
 pub mod Keys
+pub mod Alone
 pub mod LookUps
 pub mod InUse
 pub mod Rows

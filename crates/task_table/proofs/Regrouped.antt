@@ -82,4 +82,4 @@ module _ (s s' : Store) (l : IsLawful s) (l' : IsLawful s') (parents : HasParent
       swept s.numbering l.numbering s' l' r.numbers (record (state_of s) { rows = map (on_row (name_at s.numbering k) h) (state_of s).rows })
       (sym (rows-on s s' l l' r.numbers.bound
       (λ j v e. let u = named s' l' j v e in number-less s.numbering l.numbering.full l.numbering.own s'.numbering r.numbers j u.0 u.1 0) k t h at (here ∙ ap Some (sym changes)) others))
-      refl (sym (ap (λ c. c.controls) r.charges)) (sym r.numbers.bound)
+      refl refl refl (sym (ap (λ c. c.controls) r.charges)) (sym r.numbers.bound)

@@ -1,5 +1,5 @@
 -- The model's state that a store holds: keys replaced by names and ids.
-use Rattle.std.specs.Prelude.{ℕ, ◌==◌, List, map, reverse, position, slice_get, Option, Some, option_map, option_and_then, unwrap_or}
+use Rattle.std.specs.Prelude.{ℕ, ◌==◌, List, [], map, reverse, position, slice_get, Option, Some, option_map, option_and_then, unwrap_or}
 use Rattle.std.specs.Option.{option_map_or, option_eq}
 use Rattle.pid_types.specs.declared.plain.Name.{Name}
 use Rattle.pid_types.specs.declared.plain.Row.{Row}
@@ -64,10 +64,12 @@ space_of b p = record {
 abbrev pub spaces_of : Numbering → List Space
 spaces_of b = map (space_of b) b.order
 
--- the tasks by their numbers in the root namespace, the namespaces and the control groups by their ids
+-- the tasks by their numbers in the root namespace, the namespaces and the control groups by their ids. A store has no threads
 abbrev pub state_of : Store → State
 state_of s = record {
   rows = collect (row_numbered s 0) 0 s.numbering.pid_max;
+  threads = [];
+  left = [];
   spaces = spaces_of s.numbering;
   controls = s.charges.controls;
   pid_max = s.numbering.pid_max;

@@ -6,7 +6,7 @@
 
 ghost use Rattle.std.specs.Prelude.{◌≡◌, ◌≢◌, ℕ, Some, None, true, IsSome, IfSome, MatchOption, option_map};
 ghost use Rattle.{
-  pid_types.specs.Names.{live_row, task_numbered},
+  pid_types.specs.{Names.{live_row}, Threads.{process_numbered}},
   pid_numbers.specs.Numbering.{Identifier, id_at, identifier_at, number_of},
   task_tree.specs.{Tree.{task_at, lives}, declared.Task.{Task}},
   task_table.specs.{declared.view.Found.{Found}, View.{name_at, row_of, state_of}, Lawful.{HasLaws, IsLawful}},
@@ -88,7 +88,7 @@ pub fn find_task(store: &Tasks, space: SpaceKey, number: Pid) -> Option<Found>
     ensures nobody { result ≡ None → (k : ℕ) → (t : Task) → task_at store.now.tree k ≡ Some t
         → number_of store.now.numbering k space ≢ Some number }
     ensures row { (i : ℕ) → id_at store.now.numbering space ≡ Some i
-        → task_numbered (state_of store.now) i number
+        → process_numbered (state_of store.now) i number
         ≡ option_map (λ (f : Found). row_of store.now f.key f.task) result }
 {
     laws(store);

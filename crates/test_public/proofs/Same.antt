@@ -1,6 +1,6 @@
 -- Snapshots that show the same, of one state or of two.
 use Rattle.std.proofs.Common.{◌≡◌, ◌+◌, ℕ, sym, ap, ◌∙◌, subst}
-use Rattle.std.specs.Prelude.{map}
+use Rattle.std.specs.Prelude.{map, []}
 use Rattle.pid_types.specs.declared.plain.Plain.{Plain}
 use Rattle.pid_types.specs.declared.call.Call.{Call}
 use Rattle.pid_types.specs.State.{State}
@@ -17,6 +17,8 @@ pub shown_by_both : (s : State) (a b : Plain) → ShowSame a b → Shows s a →
 shown_by_both s a b same shows = record {
   pid_max = sym same.pid_max ∙ shows.pid_max;
   rows = sym same.rows ∙ shows.rows;
+  threads = shows.threads;
+  left = shows.left;
   spaces = sym same.spaces ∙ shows.spaces;
   controls = sym same.controls ∙ shows.controls;
 }
@@ -29,6 +31,10 @@ alike_of_one s t a b e one other = record {
   spaces = one.spaces ∙ ap (λ u. u.spaces) e ∙ sym other.spaces;
   controls = one.controls ∙ ap (λ u. map (with_count u) u.controls) e ∙ sym other.controls;
 }
+
+-- a state that a snapshot shows has no threads
+pub shows_no_threads : (s t : State) (a : Plain) → s ≡ t → Shows s a → (t.threads ≡ [] → t.left ≡ [] → ⊥) → ⊥
+shows_no_threads s t a e shows none = none (ap (λ u. u.threads) (sym e) ∙ shows.threads) (ap (λ u. u.left) (sym e) ∙ shows.left)
 
 -- a call leaves a sound state, with ids below the next stamp
 pub kept_by_step : StepKeepsSoundness → (s t : State) (stamp next : ℕ) (call : Call) → IsSound s × IsBelow stamp s → t ≡ (step s stamp call).state → next ≡ stamp + 1 → IsSound t × IsBelow next t

@@ -101,14 +101,16 @@ impl Pair {
     }
 
     /// What both tables show. The error is that they show two states, or want of memory.
-    #[tactic(auto, using(crate::proofs::Same::shown_by_both, crate::proofs::Same::alike_of_one))]
+    #[tactic(auto, using(crate::proofs::Same::shown_by_both, crate::proofs::Same::alike_of_one, crate::proofs::Same::shows_no_threads))]
     pub fn snapshot(&self) -> Result<Plain, Fault>
         ensures plain { IfOk result (Shows self.now.plain) }
         ensures fast { IfOk result (Shows self.now.fast) }
         ensures states { result ≡ Err Fault.States → self.now.fast ≡ self.now.plain → ⊥ }
     {
-        let plain = self.plain.snapshot()?;
         let fast = self.fast.snapshot()?;
+        let Some(plain) = self.plain.snapshot()? else {
+            return Err(Fault::States);
+        };
         if !is_same(&fast, &plain) {
             return Err(Fault::States);
         }

@@ -11,7 +11,7 @@ use Rattle.pid_types.specs.Sight.{Glimpse, sight, is_seen, glimpse_of, number_by
 use Rattle.pid_types.specs.Sound.{IsWellNumbered, IsCoherent}
 use Rattle.pid_types.specs.State.{State}
 use Rattle.model_laws.proofs.Glimpses.{first-numbers_from}
-use Rattle.model_laws.proofs.Ground.{IsIn-filter, IsIn-from_filter, IsIn-map, IsIn-from_map, number-within, own_name_in_use, Stops-at_root, climb_suffix, IsOnTree, IsOnTree-name, path_antisym, path_first, root_space_parent}
+use Rattle.model_laws.proofs.Ground.{IsIn-filter, IsIn-from_filter, IsIn-map, IsIn-from_map, number-within, own_in_use, Stops-at_root, climb_suffix, IsOnTree, IsOnTree-name, path_antisym, path_first, root_space_parent}
 use Rattle.model_laws.proofs.Levels.{numbers_are_from_level}
 use Rattle.model_laws.proofs.Lists.{IsIn-filter_map, IsIn-from_filter_map}
 use Rattle.translate.specs.declared.members.Reach.{Reach}
@@ -30,7 +30,7 @@ has_seen (Some x) m h e = ap Some e
 module _ (state : State) (sound : IsCoherent state) (s : ℕ) where
   -- a task's name is well numbered
   well : (row : Row) → IsIn row state.rows → IsWellNumbered state.spaces state.pid_max row.name
-  well row i = sound.numbered row.name (own_name_in_use state.rows row i)
+  well row i = sound.numbered row.name (own_in_use state row i)
 
   on_tree : (row : Row) → IsIn row state.rows → IsOnTree state.spaces row.name.space
   on_tree row i = IsOnTree-name state.spaces state.pid_max sound.spaces row.name (well row i)
@@ -104,7 +104,7 @@ module _ (state : State) (sound : IsCoherent state) (s : ℕ) where
         let f = IsIn-from_filter_map (λ row. number state.spaces row.name s) m (filter (is_among state.spaces reach s) state.rows) on in
         let g = IsIn-from_filter (is_among state.spaces reach s) f.0 state.rows f.1 in
         let above = above_zero f.0 g.0 m f.2 in
-        let first = first-numbers_from state s f.0 ∙ seen_with (number state.spaces f.0.name s) m f.2 in
+        let first = first-numbers_from state s f.0.name ∙ seen_with (number state.spaces f.0.name s) m f.2 in
         IsIn-filter (nat_lt 0) m (map (number_by Task) (glimpses_in reach (sight state s)))
         (subst (λ x. IsIn x (map (number_by Task) (glimpses_in reach (sight state s)))) first
         (IsIn-map (number_by Task) (glimpse_of state s f.0) (glimpses_in reach (sight state s)) (glimpse-in reach f.0 m g.0 g.1 f.2)))
@@ -116,7 +116,7 @@ module _ (state : State) (sound : IsCoherent state) (s : ℕ) where
         let g = IsIn-from_map (number_by Task) m (glimpses_in reach (sight state s)) f.0 in
         let r = row-of reach g.0 g.1 in
         let above : 0 < m = grind (arith, f.1) in
-        let has = has_seen (number state.spaces r.0.name s) m above (sym (first-numbers_from state s r.0) ∙ ap (number_by Task) (sym r.2) ∙ sym g.2) in
+        let has = has_seen (number state.spaces r.0.name s) m above (sym (first-numbers_from state s r.0.name) ∙ ap (number_by Task) (sym r.2) ∙ sym g.2) in
         IsIn-filter_map (λ x. number state.spaces x.name s) r.0 m (filter (is_among state.spaces reach s) state.rows)
         (IsIn-filter (is_among state.spaces reach s) r.0 state.rows r.1 (r.3 m has)) has
 

@@ -1,7 +1,7 @@
 -- A page is answered from what the caller's namespace sees.
 use Rattle.std.proofs.Common.{◌≡◌, ℕ, ◌<◌, ◌==◌, Bool, true, false, nat_lt, List, [], length, map, filter, Option, Some, None, if◌then◌else◌, option_map, unwrap_or, refl, sym, ap, subst, ◌∙◌, arith}
 use Rattle.std.specs.Option.{option_map_or, option_eq}
-use Rattle.std.proofs.lemmas.Bool.{eq-eqb, eqb-false, eqb-true, ne_eqb}
+use Rattle.std.proofs.lemmas.Bool.{eq-eqb, eqb-true, ne_eqb}
 use Rattle.pid_types.proofs.General.{some_number, number_tested}
 use Rattle.pid_types.specs.declared.call.Kind.{Kind}
 use Rattle.pid_types.specs.declared.call.Kind.TheVariants.{Task, Group, Session}
@@ -9,14 +9,16 @@ use Rattle.pid_types.specs.declared.plain.Name.{Name}
 use Rattle.pid_types.specs.declared.plain.Row.{Row}
 use Rattle.pid_types.specs.declared.reply.Reply.{Reply}
 use Rattle.pid_types.specs.Membership.{IsIn}
-use Rattle.pid_types.specs.Names.{number, number_or_zero, numbers_from, is_numbered, same_name, names_in_use, live_row, task_numbered}
+use Rattle.pid_types.specs.Names.{number, number_or_zero, numbers_from, is_numbered, same_name, names_in_use, task_numbered}
+use Rattle.pid_types.specs.Threads.{caller_of, process_numbered}
 use Rattle.pid_types.specs.Queries.{name_by, self_or_task}
 use Rattle.pid_types.specs.Sight.{Glimpse, sight, is_seen, glimpse_of, glimpse_at, number_by, self_or_glimpse}
 use Rattle.pid_types.specs.Sound.{IsCoherent}
 use Rattle.pid_types.specs.State.{State}
 use Rattle.model_laws.proofs.Lists.{find-Some, IsIn-map, IsIn-from_map, IsIn-filter, IsIn-from_filter, IsIn-filter_map, IsIn-from_filter_map}
-use Rattle.model_laws.proofs.Names.{number-within, own_name_in_use, group_in_use, session_in_use, same_name-true, same_name-refl}
-use Rattle.model_laws.proofs.Glimpses.{first-numbers_from, glimpse_at-sight, there, above_zero, own_above_zero, own_task, kind_in_use, kind_number}
+use Rattle.model_laws.proofs.Names.{number-within, own_in_use, own_name_in_use, used_by_row, group_in_use, session_in_use, same_name-true, same_name-refl}
+use Rattle.model_laws.proofs.Glimpses.{first-numbers_from, glimpse_at-sight, own_seen, there, above_zero, kind_in_use, kind_number}
+use Rattle.task_table.proofs.Alone.{caller-live, process-task}
 use Rattle.translate.specs.declared.members.Reach.{Reach}
 use Rattle.translate.specs.declared.page.Page.{Page}
 use Rattle.translate.specs.declared.page.Whom.{Whom}
@@ -30,8 +32,9 @@ tested : (o : Option ℕ) (n : ℕ) → 0 < n → option_eq ◌==◌ o (Some n) 
 tested None n h = sym (ne_eqb 0 n (λ e. omega (arith, e, h)))
 tested (Some m) n h = refl
 
-module _ (state : State) (sound : IsCoherent state) (root : ℕ) (caller : Row) (own : ℕ) (live : live_row state.rows root ≡ Some caller)
-    (is_own : number state.spaces caller.name caller.name.space ≡ Some own) where
+-- in a state without threads
+module _ (state : State) (sound : IsCoherent state) (root : ℕ) (caller : Row) (own : ℕ) (live : caller_of state root ≡ Some caller)
+    (is_own : number state.spaces caller.name caller.name.space ≡ Some own) (threads : state.threads ≡ []) where
   abbrev s : ℕ
   s = caller.name.space
 
@@ -48,9 +51,7 @@ module _ (state : State) (sound : IsCoherent state) (root : ℕ) (caller : Row) 
     -- the number that is meant for 0 is that of its own
     own_number : option_map_or (number_by kind) (glimpse_at (sight state s) own) 0 ≡ number_or_zero state.spaces (name_by kind caller) s
     own_number =
-        ap (λ o. option_map_or (number_by kind) o 0) (glimpse_at-sight state s own (own_above_zero state sound root caller own live is_own)
-        ∙ ap (option_map (glimpse_of state s)) (own_task state sound root caller own live is_own))
-        ∙ kind_number state sound root caller own live is_own kind caller
+        ap (λ o. option_map_or (number_by kind) o 0) (own_seen state sound root caller own live is_own) ∙ kind_number state sound s kind caller
 
     -- what a task belongs to has a name in use
     owner_in_use : (row : Row) → IsIn row state.rows → (name : Name) → belongs_to kind row ≡ Some name → IsIn name (names_in_use state.rows)
@@ -81,8 +82,8 @@ module _ (state : State) (sound : IsCoherent state) (root : ℕ) (caller : Row) 
                       no : (b : Bool) → option_eq ◌==◌ (number state.spaces name s) (Some x) ≡ b → b ≡ false
                       no false is = refl
                       no true has =
-                          let one = sound.distinct name (name_by kind caller) (owner_in_use row i name e)
-                          (kind_in_use state sound root caller own live is_own kind caller (there state sound root caller own live is_own)) s x
+                          let one = sound.distinct name (name_by kind caller) (used_by_row state name (owner_in_use row i name e))
+                          (kind_in_use state sound s kind caller (there state sound root caller own live is_own)) s x
                           (some_number (number state.spaces name s) x has) is in
                           let z : true ≡ false = sym (same_name-refl name (name_by kind caller) one) ∙ differs in
                           absurd (cc)
@@ -107,9 +108,9 @@ module _ (state : State) (sound : IsCoherent state) (root : ℕ) (caller : Row) 
           let f = IsIn-from_filter_map (λ row. number state.spaces row.name s) m (filter (belongs state caller kind n) state.rows) on in
           let g = IsIn-from_filter (belongs state caller kind n) f.0 state.rows f.1 in
           let row = f.0 in
-          let above = above_zero state sound root caller own live is_own row.name (own_name_in_use state.rows row g.0) s m f.2 in
+          let above = above_zero state sound s row.name (own_in_use state row g.0) m f.2 in
           let there : is_seen state s row ≡ true = rw f.2 refl in
-          let first = first-numbers_from state s row ∙ seen_with (number state.spaces row.name s) m f.2 in
+          let first = first-numbers_from state s row.name ∙ seen_with (number state.spaces row.name s) m f.2 in
           IsIn-filter (nat_lt 0) m (map (number_by Task) (filter (λ k. owner_seen kind k == page_number) (sight state s)))
           (subst (λ x. IsIn x (map (number_by Task) (filter (λ k. owner_seen kind k == page_number) (sight state s)))) first
           (IsIn-map (number_by Task) (glimpse_of state s row) (filter (λ k. owner_seen kind k == page_number) (sight state s))
@@ -127,7 +128,7 @@ module _ (state : State) (sound : IsCoherent state) (root : ℕ) (caller : Row) 
           let row = r.0 in
           let among = (IsIn-from_filter (is_seen state s) row state.rows r.1).0 in
           let above : 0 < m = grind (arith, f.1) in
-          let has = has_seen (number state.spaces row.name s) m above (sym (first-numbers_from state s row) ∙ ap (number_by Task) (sym r.2) ∙ sym g.2) in
+          let has = has_seen (number state.spaces row.name s) m above (sym (first-numbers_from state s row.name) ∙ ap (number_by Task) (sym r.2) ∙ sym g.2) in
           IsIn-filter_map (λ x. number state.spaces x.name s) row m (filter (belongs state caller kind n) state.rows)
           (IsIn-filter (belongs state caller kind n) row state.rows among (belongs-is row among ∙ ap (λ k. owner_seen kind k == page_number) (sym r.2) ∙ q.1))
           has
@@ -142,22 +143,21 @@ module _ (state : State) (sound : IsCoherent state) (root : ℕ) (caller : Row) 
   self_seen : (n : ℕ) → self_or_glimpse (sight state s) own n ≡ option_map (glimpse_of state s) (self_or_task state caller n)
   self_seen n = go (n == 0) refl
     where
-      go : (b : Bool) → (n == 0) ≡ b → glimpse_at (sight state s) (if b then own else n) ≡ option_map (glimpse_of state s) (if b then Some caller else task_numbered state s n)
-      go true e =
-          glimpse_at-sight state s own (own_above_zero state sound root caller own live is_own)
-          ∙ ap (option_map (glimpse_of state s)) (own_task state sound root caller own live is_own)
-      go false e = glimpse_at-sight state s n (let differs : n ≡ 0 → ⊥ = eqb-false n 0 e in omega (arith, differs))
+      go : (b : Bool) → (n == 0) ≡ b → glimpse_at (sight state s) (if b then own else n) ≡ option_map (glimpse_of state s) (if b then Some caller else process_numbered state s n)
+      go true e = own_seen state sound root caller own live is_own
+      go false e =
+          glimpse_at-sight state sound s n ∙ ap (option_map (glimpse_of state s)) (sym (process-task state threads s n))
 
   -- and it is a task that has a number in the caller's namespace
   self-there : (n : ℕ) (task : Row) → self_or_task state caller n ≡ Some task → IsIn task state.rows × ((m : ℕ) × (number state.spaces task.name s ≡ Some m))
   unfolding task_numbered
   self-there n task e = go (n == 0) e
     where
-      go : (b : Bool) → (if b then Some caller else task_numbered state s n) ≡ Some task → IsIn task state.rows × ((m : ℕ) × (number state.spaces task.name s ≡ Some m))
+      go : (b : Bool) → (if b then Some caller else process_numbered state s n) ≡ Some task → IsIn task state.rows × ((m : ℕ) × (number state.spaces task.name s ≡ Some m))
       go true e =
           let same : caller ≡ task = ap (λ o. unwrap_or o caller) e in
           subst (λ (row : Row). IsIn row state.rows × ((m : ℕ) × (number state.spaces row.name s ≡ Some m))) same (there state sound root caller own live is_own, (own, is_own))
-      go false e = let f = find-Some (λ row. is_numbered state.spaces row.name s n) state.rows task e in (f.0, (n, some_number (number state.spaces task.name s) n f.1))
+      go false e = let f = find-Some (λ row. is_numbered state.spaces row.name s n) state.rows task (sym (process-task state threads s n) ∙ e) in (f.0, (n, some_number (number state.spaces task.name s) n f.1))
 
   -- the tasks of the caller's own namespace are those that are seen
   listed_namespace : (reach : Reach) (n from : ℕ) (listed : List ℕ) → IsInSight (sight state s) own (Namespace reach) n → AreListedFrom (numbers_asked state caller (Namespace reach) n) from listed
@@ -185,7 +185,8 @@ module _ (state : State) (sound : IsCoherent state) (root : ℕ) (caller : Row) 
   listed_by (Namespace reach) n from listed one l = listed_namespace reach n from listed one l
 
 -- so a page that is told is told of what is seen
-pub told_seen : (state : State) (page : Page) (old new : List ℕ) (reply : Reply) → TellsPage state page old new reply → TellsSeenPage state page old new reply
-told_seen state page old new reply t caller own c seen =
-    let p = t.listed caller c.live in
-    (p.0, listed_by state c.sound.coherent page.caller caller own c.live c.own page.whom page.number page.from p.0 seen p.1, p.2, p.3)
+pub told_seen : (state : State) → state.threads ≡ [] → state.left ≡ [] → (page : Page) (old new : List ℕ) (reply : Reply)
+    → TellsPage state page old new reply → TellsSeenPage state page old new reply
+told_seen state threads left page old new reply t caller own c seen =
+    let p = t.listed caller (sym (caller-live state threads left page.caller) ∙ c.live) in
+    (p.0, listed_by state c.sound.coherent page.caller caller own c.live c.own threads page.whom page.number page.from p.0 seen p.1, p.2, p.3)

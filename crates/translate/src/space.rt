@@ -31,6 +31,7 @@ pub struct SpaceStat {
 }
 
 /// The root number of the namespace's init.
+#[tactic(auto, unfolding(pid_types::specs::Names::task_numbered, pid_types::specs::Threads::process_numbered))]
 fn init_of(store: &Tasks, key: SpaceKey) -> Option<Pid>
     ensures { (i : ℕ) → id_at store.now.numbering key ≡ Some i
         → result ≡ option_map (λ row. root_number row.name) (task_numbered (state_of store.now) i 1) }

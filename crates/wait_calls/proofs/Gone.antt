@@ -51,4 +51,4 @@ module _ (s s' : Store) (l : IsLawful s) (l' : IsLawful s') (w : IsWhole s) (k :
       swept s.numbering l.numbering s' l' g.numbers (record (state_of s) { rows = filter (λ row. not (same_name row.name (name_at s.numbering k))) (state_of s).rows })
       (sym (rows-without s s' l l' g.numbers.bound
       (λ j v e. let u = named s' l' j v e in number-less s.numbering l.numbering.full l.numbering.own s'.numbering g.numbers j u.0 u.1 0) k t at (left.gone s s' l l' w.parents k t at alone g) (left.row_left s s' l l' w.parents k t at alone g)))
-      refl (sym g.home.controls) (sym g.numbers.bound)
+      refl refl refl (sym g.home.controls) (sym g.numbers.bound)

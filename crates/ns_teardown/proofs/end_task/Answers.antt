@@ -1,4 +1,5 @@
 use Rattle.std.proofs.Common.{sym}
+use Rattle.pid_types.specs.Exit.{handed_over}
 use Rattle.ns_teardown.proofs.Good.{good-tasks}
 use Rattle.ns_teardown.proofs.Ended.{HasEnded, ended}
 use Rattle.ns_teardown.proofs.end_task.Goals as goal
@@ -7,6 +8,7 @@ pub exit-requires-clause-good : goal.exit-requires-clause-good
 exit-requires-clause-good c = good-tasks c.args.store.now c.laws.ensures c.requires.whole
 
 pub returns-clause-state : goal.returns-clause-state
+unfolding handed_over
 returns-clause-state c =
     let old = c.args.store.now in
     let new = c.exit.new.store in

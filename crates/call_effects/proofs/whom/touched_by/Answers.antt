@@ -9,4 +9,4 @@ returns-in_default-clause-touches c =
     let s = c.args.table.now in
     let none = c.in_default in
     subst (Touches s (step s c.args.stamp c.args.call).state) (sym c.new.ensures.items)
-    (untouched s c.args.stamp c.laws.ensures c.requires c.args.call (is_plain c.args.call none.not-Exit none.not-Wait none.not-SetPgid none.not-SetSid))
+    (untouched s c.args.stamp c.laws.ensures c.requires c.no_threads.ensures.threads c.no_threads.ensures.left c.args.call (is_plain c.args.call none.not-Exit none.not-Wait none.not-SetPgid none.not-SetSid))

@@ -13,7 +13,7 @@ returns-clause-touches c =
     let s = c.args.table.now in
     IfOk-weaker c.list_one.result _ _ (λ r is.
     subst (Touches s (step s c.args.stamp (SetPgid c.args.caller c.args.pid c.args.pgid)).state) (sym is)
-    (touches_target s c.args.stamp c.laws.ensures c.requires c.args.caller c.args.pid c.args.pgid c.target_root.result
+    (touches_target s c.args.stamp c.laws.ensures c.requires c.no_threads.ensures.threads c.no_threads.ensures.left c.args.caller c.args.pid c.args.pgid c.target_root.result
     (c.target_root.ensures ∙ ap (target_seen s c.args.caller) (to_z-of_z w32 c.args.pid c.ranges.pid)))) c.list_one.ensures
 
 pub returns-clause-just : goal.returns-clause-just

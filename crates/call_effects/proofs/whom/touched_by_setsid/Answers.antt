@@ -12,7 +12,7 @@ returns-clause-touches c =
     let s = c.args.table.now in
     IfOk-weaker c.list_one.result _ _ (λ r is.
     subst (Touches s (step s c.args.stamp (SetSid c.args.caller)).state) (sym is)
-    (touches_leader s c.args.stamp c.laws.ensures c.requires c.args.caller c.root_of.result c.root_of.ensures)) c.list_one.ensures
+    (touches_leader s c.args.stamp c.laws.ensures c.requires c.no_threads.ensures.threads c.no_threads.ensures.left c.args.caller c.root_of.result c.root_of.ensures)) c.list_one.ensures
 
 pub returns-clause-just : goal.returns-clause-just
 returns-clause-just c = IfOk-weaker c.list_one.result _ _ (λ r is. is ∙ ap none_or_one c.root_of.ensures) c.list_one.ensures

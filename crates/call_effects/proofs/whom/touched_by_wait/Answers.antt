@@ -17,14 +17,14 @@ returns-in-Reaped-clause-touches c =
     let s = c.args.table.now in
     IfOk-weaker c.list_one.result _ _ (λ r is.
     subst (Touches s (step s c.args.stamp (Wait c.args.caller c.args.which)).state) (sym is)
-    (touches_reaped s c.args.stamp c.laws.ensures c.requires c.args.caller c.args.which c.in-Reaped.child c.in-Reaped.ended c.root_of.result
+    (touches_reaped s c.args.stamp c.laws.ensures c.requires c.no_threads.ensures.threads c.no_threads.ensures.left c.args.caller c.args.which c.in-Reaped.child c.in-Reaped.ended c.root_of.result
     (sym c.would.ensures ∙ c.in-Reaped.is) c.root_of.ensures)) c.list_one.ensures
 
 pub returns-in_default-clause-touches : goal.returns-in_default-clause-touches
 returns-in_default-clause-touches c =
     let s = c.args.table.now in
     subst (Touches s (step s c.args.stamp (Wait c.args.caller c.args.which)).state) (sym c.new.ensures.items)
-    (touches_nobody s c.args.stamp c.laws.ensures c.requires c.args.caller c.args.which (λ child ended told. c.in_default.not-Reaped child ended (c.would.ensures ∙ told)))
+    (touches_nobody s c.args.stamp c.laws.ensures c.requires c.no_threads.ensures.threads c.no_threads.ensures.left c.args.caller c.args.which (λ child ended told. c.in_default.not-Reaped child ended (c.would.ensures ∙ told)))
 
 pub returns-in-Reaped-clause-just : goal.returns-in-Reaped-clause-just
 returns-in-Reaped-clause-just c =

@@ -1,23 +1,12 @@
-use Rattle.std.proofs.Common.{refl, sym, ◌∙◌}
-use Rattle.plain_table.proofs.Drawn.{no_room-full, no_room-limited, no_room-None, forked-planned}
+use Rattle.std.proofs.Common.{refl}
+use Rattle.plain_table.proofs.Drawn.{forked-planned}
 use Rattle.plain_table.proofs.fork.plan.Goals as goal
-
-pub returns-in-Err : goal.returns-in-Err
-returns-in-Err c =
-    let path = c.as_slice.ensures.value ∙ c.path_up-path.ensures in
-    no_room-full c.args.view.now c.args.caller.now c.args.space c.in-Err.full (rw path at c.in-Err.ensures)
-
-pub returns-in-Some : goal.returns-in-Some
-returns-in-Some c =
-    let path = c.as_slice.ensures.value ∙ c.path_up-path.ensures in
-    no_room-limited c.args.view.now c.args.caller.now c.args.space c.in-Some.control (rw path at c.in-Ok.ensures.0) (sym c.passed_limit.ensures ∙ c.in-Some.is)
 
 pub returns : goal.returns
 returns c =
-    let path = c.as_slice.ensures.value ∙ c.path_up-path.ensures in
-    let child = c.child_of-child.ensures c.args.view.now (rw path at c.in-Ok.ensures.1) in (
+    let named = c.in_ok-name.ensures in (
       refl,
-      no_room-None c.args.view.now c.args.caller.now c.args.space (rw path at c.in-Ok.ensures.0) (sym c.passed_limit.ensures ∙ c.in_default.is),
-      forked-planned c.args.view.now c.args.caller.now c.args.space c.path_up-path.result.items c.in-Ok.draws.cursors.items c.child_of-child.result c.number_or_zero.result c.root_number.result
-          c.path_up-path.ensures (rw c.as_slice.ensures.value at c.in-Ok.ensures.2) child c.number_or_zero.ensures c.root_number.ensures,
+      named.0,
+      forked-planned c.args.view.now c.args.caller.now c.args.space c.in_ok-name.field-0.path.items c.in_ok-name.field-0.cursors.items c.child_of-child.result c.number_or_zero.result c.root_number.result
+          named.1 named.2 (c.child_of-child.ensures c.args.view.now named.3) c.number_or_zero.ensures c.root_number.ensures,
     )

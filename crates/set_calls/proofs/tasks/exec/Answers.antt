@@ -4,16 +4,16 @@ use Rattle.pid_types.specs.declared.reply.Refusal.TheVariants.{NoCaller}
 use Rattle.pid_types.specs.declared.reply.Reply.TheVariants.{Done}
 use Rattle.pid_types.specs.Names.{with_row}
 use Rattle.pid_types.specs.Outcome.{changed, for_found}
-use Rattle.pid_types.specs.Changes.{exec, set_executed}
+use Rattle.pid_types.specs.Changes.{after_exec, exec, set_executed}
 use Rattle.task_table.specs.View.{state_of}
 use Rattle.task_table.proofs.Changed.{retasked, updated}
 use Rattle.set_calls.proofs.tasks.exec.Goals as goal
 
 pub returns-clause-state : goal.returns-clause-state
-unfolding exec
+unfolding exec after_exec with_row
 returns-clause-state c =
     let old = c.args.store.now in
     let new = c.update.new.self in
     let task = record c.in-Some.found.task { executed = true } in
-    sym (ap (λ o. (for_found (state_of old) o NoCaller (λ row. changed (with_row (state_of old) row.name set_executed) Done)).state) c.in-Some.ensures.row
-    ∙ retasked old new c.laws.ensures c.laws-2.ensures c.in-Some.found.key c.in-Some.found.task task c.in-Some.ensures.there.0 (updated old new c.in-Some.found.key task c.update.ensures.tasks c.update.ensures.rest) set_executed refl)
+    sym (ap (λ o. (for_found (state_of old) o NoCaller (λ row. changed (after_exec (state_of old) c.args.caller row.name) Done)).state) c.in-Some.ensures.row
+    ∙ retasked old new c.laws.ensures c.laws-2.ensures c.in-Some.found.key c.in-Some.found.task task c.in-Some.ensures.there.0 (updated old new c.in-Some.found.key task c.update.ensures.tasks c.update.ensures.rest) (set_executed (state_of old) c.args.caller) refl)

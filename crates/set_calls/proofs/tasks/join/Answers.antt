@@ -2,7 +2,8 @@ use Rattle.std.proofs.Common.{◌∙◌, sym, ap, not}
 use Rattle.pid_types.specs.declared.plain.Row.{Row}
 use Rattle.pid_types.specs.declared.reply.Refusal.TheVariants.{NoCaller, NoTask}
 use Rattle.pid_types.specs.declared.reply.Reply.TheVariants.{Done}
-use Rattle.pid_types.specs.Names.{with_row, is_live, task_numbered}
+use Rattle.pid_types.specs.Names.{with_row, is_live}
+use Rattle.pid_types.specs.Threads.{process_numbered}
 use Rattle.pid_types.specs.Outcome.{Outcome, changed, for_found, refuse_if}
 use Rattle.pid_types.specs.Changes.{join, set_children_space}
 use Rattle.task_table.specs.View.{name_at, row_of, state_of}
@@ -19,7 +20,7 @@ returns-clause-state c =
     let task = record found.task { children_space = c.own_id-children_space.result } in
     let goes : Row → Outcome = λ row. changed (with_row (state_of old) (name_at old.numbering found.key) (set_children_space row.name.space)) Done in
     let asked : Row → Outcome = λ row. refuse_if (state_of old) (not (is_live row)) NoTask (goes row) in
-    sym (ap (λ o. (for_found (state_of old) o NoCaller (λ caller. for_found (state_of old) (task_numbered (state_of old) caller.name.space c.args.target) NoTask (λ row.
+    sym (ap (λ o. (for_found (state_of old) o NoCaller (λ caller. for_found (state_of old) (process_numbered (state_of old) caller.name.space c.args.target) NoTask (λ row.
     refuse_if (state_of old) (not (is_live row)) NoTask (changed (with_row (state_of old) caller.name (set_children_space row.name.space)) Done)))).state) c.in-Some.ensures.row
     ∙ ap (λ o. (for_found (state_of old) o NoTask asked).state) (c.in-Some-find_task.ensures.row (name_at old.numbering found.key).space c.in-Some.ensures.id)
     ∙ ap (λ b. (refuse_if (state_of old) (not b) NoTask (goes (row_of old other.key other.task))).state) (sym c.is_live.ensures ∙ c.if-not-is_live.false)

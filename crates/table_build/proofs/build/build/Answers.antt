@@ -1,4 +1,4 @@
-use Rattle.std.proofs.Common.{map, ap, ◌∙◌, arith}
+use Rattle.std.proofs.Common.{[], map, ap, ◌∙◌, arith}
 use Rattle.table_build.specs.Bare.{steady}
 use Rattle.table_build.proofs.SpaceFalls.{steady-bare, steady-same}
 use Rattle.task_table.proofs.Results.{if_err}
@@ -22,7 +22,7 @@ returns-clause-state c =
     let rows = c.put_cursors.ensures.rows ∙ f.rows ∙ c.in_ok-put_tasks.ensures.rows in
     let controls = ap (λ x. x.controls) m.charges ∙ ap (λ s. s.charges.controls) f.rest.rest ∙ p.controls ∙ c.in_ok-store.ensures.controls in
     let bound = m.spaces.bound ∙ f.rest.bound ∙ p.spaces.bound ∙ c.in_ok-store.ensures.bound in
-    λ i. record { rows = rows i; spaces = c.put_cursors.ensures.put i; controls = controls i; pid_max = bound i }
+    λ i. record { rows = rows i; threads = []; left = []; spaces = c.put_cursors.ensures.put i; controls = controls i; pid_max = bound i }
 
 pub returns-in_err-put_tasks-clause-refused : goal.returns-in_err-put_tasks-clause-refused
 returns-in_err-put_tasks-clause-refused c =

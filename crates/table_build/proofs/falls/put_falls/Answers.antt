@@ -1,4 +1,4 @@
-use Rattle.std.proofs.Common.{◌≡◌, ℕ, Bool, List, ap, ◌∙◌, option_map, arith}
+use Rattle.std.proofs.Common.{◌≡◌, ℕ, Bool, List, refl, ap, ◌∙◌, option_map, arith}
 use Rattle.pid_numbers.specs.Numbering.{namespace_at}
 use Rattle.pid_numbers.specs.Restore.{is_flagged, fallen_if}
 use Rattle.table_build.proofs.Steps.{row-same, state-rows}
@@ -37,7 +37,7 @@ returns-in_err-check_falls-clause-refused c =
     let flags = c.in_ok-flags.flags.items in
     if_err c.from_residual-in_err-check_falls.result _ c.in_err-check_falls.field-0.0 c.from_residual-in_err-check_falls.ensures.1 (λ not sound rows.
     c.in_err-check_falls.ensures.refused (subst (λ (l : List Bool). MayHaveFalls c.args.store.now.numbering l c.args.saved.now.spaces.items) (sym c.deref.ensures.value)
-    (may-have c.args.store.now c.laws.ensures (saved_state c.args.saved.now) sound c.requires.listed rows flags c.in_ok-flags.ensures.flagged)))
+    (may-have c.args.store.now c.laws.ensures (saved_state c.args.saved.now) sound c.requires.listed rows refl flags c.in_ok-flags.ensures.flagged)))
 
 pub set_fallen-requires-clause-may : goal.set_fallen-requires-clause-may
 set_fallen-requires-clause-may c =

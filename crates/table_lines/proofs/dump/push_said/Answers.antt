@@ -16,6 +16,8 @@ returns-clause-text c =
 pub returns-clause-held : goal.returns-clause-held
 returns-clause-held c = record {
   rows = c.in_ok-push_tasks.ensures.held;
+  threads = c.no_threads.ensures.threads;
+  left = c.no_threads.ensures.left;
   spaces = subst (Each IsHeldSpace) (c.deref.ensures.value ∙ c.in_ok-spaces.ensures) c.spaces_fit.ensures;
   controls = controls-held c.args.table.now (subst (λ rows. Each IsHeldControl (map control_shown rows)) (c.deref-3.ensures.value ∙ c.in_ok-controls.ensures) c.controls_fit.ensures);
   pid_max = (let v = c.pid_max.ensures.value in let g = c.pid_max.ensures.good.1 in omega (arith, v, g));

@@ -38,6 +38,7 @@ returns c = (
         controls = each_below (λ (s : Control). s.id) stamp c.args.saved.now.controls.items
             (ap (list_all (λ (s : Control). nat_lt s.id stamp)) (sym c.deref-2.ensures.value) ∙ sym c.are_controls_below.ensures ∙ c.if-not-are_controls_below.false);
         children = each_below (λ (s : Row). s.children_space) stamp c.args.saved.now.rows (sym c.have_children_below.ensures ∙ h);
+        thread_children = λ t i. absurd i;
       }),
   (λ low.
       c.have_children_below.ensures ∙ all_below (λ (s : Row). s.children_space) c.args.saved.now.stamp c.args.saved.now.rows low.children),

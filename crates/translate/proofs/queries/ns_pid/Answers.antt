@@ -1,4 +1,4 @@
-use Rattle.std.proofs.Common.{◌∙◌, List, ℕ, drop, replicate, sym, ap}
+use Rattle.std.proofs.Common.{◌∙◌, List, ℕ, drop, replicate, refl, sym, ap}
 use Rattle.std.specs.Option.{option_map_or}
 use Rattle.pid_types.specs.declared.plain.Row.{Row}
 use Rattle.pid_types.specs.declared.reply.Reply.{Reply}
@@ -10,6 +10,7 @@ use Rattle.pid_numbers.specs.Numbering.{levels_of}
 use Rattle.task_table.specs.View.{name_at, state_of}
 use Rattle.task_table.proofs.Keys.{levels-are}
 use Rattle.task_table.proofs.LookUps.{named}
+use Rattle.task_table.proofs.Alone.{process-task}
 use Rattle.translate.proofs.Written.{first_of, behind}
 use Rattle.translate.proofs.queries.ns_pid.Goals as goal
 
@@ -26,7 +27,7 @@ returns-clause-value c =
     (drop c.write_levels_from.result (replicate 33 0)) c.write_levels_from.ensures.count c.write_levels_from.ensures.numbers in record {
       tells = sym (ap (λ o. option_map_or (λ (caller : Row). option_map_or (λ (row : Row). Levels (record { items = numbers_from (state_of s).spaces row.name caller.name.space })) (task_numbered (state_of s) caller.name.space c.args.target) (Refused NoTask)) o (Refused NoCaller))
           c.in-Some.ensures.row
-          ∙ ap (λ o. option_map_or levels o (Refused NoTask)) (c.in-Some-find_task.ensures.row space c.in-Some.ensures.id)
+          ∙ ap (λ o. option_map_or levels o (Refused NoTask)) (sym (process-task (state_of s) refl space c.args.target) ∙ c.in-Some-find_task.ensures.row space c.in-Some.ensures.id)
           ∙ ap told (levels-are s.numbering c.laws.ensures.numbering c.in-Some.found.space space task.key u.0 c.in-Some.ensures.id u.1
           ∙ ap (λ b. levels_of b task.key c.in-Some.found.space) (sym c.numbers.ensures) ∙ sym wrote.0));
       fits = wrote.1;

@@ -15,8 +15,8 @@ returns-then-not-may_touch-clause-watches c =
     let s = c.args.table.now in
     let new = (step s c.args.stamp c.args.call).state in
     subst (Watches s new) (sym c.none.ensures)
-    (watches_none s new c.laws.ensures (step_keeps s c.args.stamp c.args.call c.laws.ensures c.requires).0
-    (untouched s c.args.stamp c.laws.ensures c.requires c.args.call (sym c.may_touch.ensures ∙ c.if-not-may_touch.true))
+    (watches_none s new c.laws.ensures c.no_threads.ensures.threads (step_keeps s c.args.stamp c.args.call c.laws.ensures c.requires).0
+    (untouched s c.args.stamp c.laws.ensures c.requires c.no_threads.ensures.threads c.no_threads.ensures.left c.args.call (sym c.may_touch.ensures ∙ c.if-not-may_touch.true))
     (keeps_spaces s c.args.stamp c.args.call c.laws.ensures c.requires))
 
 pub returns-clause-touching : goal.returns-clause-touching

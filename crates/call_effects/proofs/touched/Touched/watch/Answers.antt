@@ -25,7 +25,7 @@ returns-clause-watches c new sound touches keeps =
     let sessions = c.in_ok-sessions.sessions.items in
     watches c.args.table.now new
     (record { tasks = c.in_ok-tasks.tasks.items; groups = groups; sessions = sessions; spaces = c.in_ok-spaces.spaces.items })
-    c.args.numbers.now l.0 c.in_ok-ids.ids.items c.laws.ensures sound touches keeps c.in_ok-tasks.ensures
+    c.args.numbers.now l.0 c.in_ok-ids.ids.items c.laws.ensures c.no_threads.ensures.threads sound touches keeps c.in_ok-tasks.ensures
     (subst (λ ts. AreListedFrom (map (owner_by Group) ts) 0 groups) c.deref.ensures.value c.in_ok-groups.ensures.listed)
     (subst (λ ts. AreListedFrom (map (owner_by Session) ts) 0 sessions) c.deref-2.ensures.value c.in_ok-sessions.ensures.listed)
     (subst (λ ts. AreListedFrom (flat_map watched_spaces ts) 0 l.0) c.deref-3.ensures.value l.1) l.2
