@@ -378,7 +378,7 @@ struct pidtab_space {
  * is told stays as it is.
  *
  * A list is told in pages: from `from` on, as many as there is room for; what is after stays. count, or a reply of the kind PIDTAB_COUNTED, says how many
- * there are in all from there on. So the next page begins at the last one + 1, and a room of 0 only counts. */
+ * there are from there on, or room + 1 where there are more. Then the next page begins at the last one + 1. A room of 0 tells whether there is any. */
 
 /* Written by tools/interface: questions. */
 /* Answers a query as its call would be answered, refusals too. Nothing changes, and it is not counted. It takes no memory. DONE; CLOSED; OUT_OF_RANGE
@@ -397,7 +397,8 @@ uint32_t pidtab_stat(const struct pidtab *table, uint32_t caller, uint32_t numbe
  * task.
  * PIDTAB_SESSION_MEMBERS: The members of the session with the number `number`, where 0 is the caller's own, as PIDTAB_CHILDREN has those of a task.
  * PIDTAB_NAMESPACE_MEMBERS: The tasks of the namespace that the task `number` is in, where 0 is the caller, those in namespaces inside it too, as
- * PIDTAB_CHILDREN has those of a task. Of the caller's own namespace these are all that it sees: whom kill(2) of -1 reaches.
+ * PIDTAB_CHILDREN has those of a task. Of the caller's own namespace these are all that it sees, whom kill(2) of -1 reaches, and only what is told of
+ * them is read.
  * PIDTAB_NAMESPACE_OWN: Of PIDTAB_NAMESPACE_MEMBERS those that are in no namespace inside it.
  *
  * It takes memory for a list. DONE; CLOSED; OUT_OF_RANGE for another whom; NO_MEMORY. */

@@ -355,11 +355,13 @@ static void *reads_pages(void *unused)
 	struct pidtab_reply reply;
 	bool by_control = false;
 
-	for (size_t before = 0, room = 0; before < FORKS; before = reply.first, room = (room + 7) % (FORKS + 1)) {
+	for (size_t before = 0, room = 0; before < FORKS; room = (room + 13) % (FORKS + 1)) {
 		CHECK(unused == NULL && read_shared(by_control, numbers, room, &reply) == PIDTAB_DONE);
-		CHECK(reply.kind == PIDTAB_COUNTED && reply.first >= before && reply.first <= FORKS);
+		CHECK(reply.kind == PIDTAB_COUNTED && reply.first <= FORKS && reply.first <= room + 1);
+		CHECK(reply.first > room || reply.first >= before);
 		for (uint32_t i = 0; i < room && i < reply.first; i++)
 			CHECK(numbers[i] == i + 2);
+		before = reply.first > before ? reply.first : before;
 		by_control = !by_control;
 	}
 	return NULL;

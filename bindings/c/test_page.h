@@ -36,11 +36,11 @@ static void is_untold(const struct page *it)
 	CHECK(is_rest_untold(it, 0) && is_same_reply(&it->reply, &was));
 }
 
-/* All that belong to the number from one on are these, of which as many were told as there was room for. */
+/* All that belong to the number from one on are these, of which as many were told as there was room for, and one more counted where there are more. */
 static void has_told(const struct page *it, size_t room, const uint32_t *wanted, size_t count)
 {
-	struct pidtab_reply reply = { .kind = PIDTAB_COUNTED, .first = count };
 	size_t told = count < room ? count : room;
+	struct pidtab_reply reply = { .kind = PIDTAB_COUNTED, .first = told + (count > room) };
 
 	CHECK(is_same_reply(&it->reply, &reply));
 	CHECK(memcmp(it->numbers, wanted, told * sizeof *wanted) == 0 && is_rest_untold(it, told));

@@ -8,15 +8,18 @@ import "unsafe"
 // shortPage is the room for a first try, in numbers.
 const shortPage = 64
 
-// numbers are all numbers of a function of the library that writes as many as there is room for, and whose reply counts all. Nothing changes between
-// two tries.
+// growth is how many times as long the next room is: so all tries of a list together cost little more than the last one.
+const growth = 4
+
+// numbers are all numbers of a function of the library that writes as many as there is room for, and whose reply counts one more where there are more.
+// Nothing changes between two tries.
 func (table *Table) numbers(page func(held *heldTable, numbers *C.uint32_t, room C.size_t, reply *C.struct_pidtab_reply) C.uint32_t) ([]uint32, error) {
 	held, reply := table.held(), new(C.struct_pidtab_reply)
 	if !held.share() {
 		return nil, ErrBusy
 	}
 	defer held.RUnlock()
-	for there := shortPage; ; {
+	for there := shortPage; ; there *= growth {
 		numbers := make([]uint32, there)
 		status := page(held, (*C.uint32_t)(unsafe.Pointer(&numbers[0])), C.size_t(there), reply)
 		if err := faultOf(uint32(status)); err != nil {
@@ -25,9 +28,8 @@ func (table *Table) numbers(page func(held *heldTable, numbers *C.uint32_t, room
 		if reply.kind == C.PIDTAB_REFUSED {
 			return nil, refusalOf(reply)
 		}
-		there = int(reply.first)
-		if there <= len(numbers) {
-			return numbers[:there], nil
+		if count := int(reply.first); count <= there {
+			return numbers[:count], nil
 		}
 	}
 }

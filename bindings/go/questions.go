@@ -58,8 +58,8 @@ func (table *Table) SessionMembers(caller, session, from uint32) ([]uint32, erro
 }
 
 // NamespaceMembers tells the tasks of the namespace that the task pid is in, where 0 is the caller, those in namespaces inside it too, as
-// Children has those of a task. Of the caller's own namespace these are all that it sees: whom kill(2) of -1 reaches. It takes memory for a
-// list. It is no call, as Ask makes none. Refused as no-caller. ErrNoMemory, ErrClosed, ErrBusy.
+// Children has those of a task. Of the caller's own namespace these are all that it sees, whom kill(2) of -1 reaches, and only what is told
+// of them is read. It takes memory for a list. It is no call, as Ask makes none. Refused as no-caller. ErrNoMemory, ErrClosed, ErrBusy.
 func (table *Table) NamespaceMembers(caller, pid, from uint32) ([]uint32, error) {
 	found, err := table.numbers(func(held *heldTable, numbers *C.uint32_t, room C.size_t, reply *C.struct_pidtab_reply) C.uint32_t {
 		return C.pidtab_page(&held.raw, C.uint32_t(caller), C.PIDTAB_NAMESPACE_MEMBERS, C.uint32_t(pid), C.uint32_t(from), numbers, room, reply)

@@ -26,7 +26,7 @@ func (table *Table) ids(absent error, page func(held *heldTable, ids *C.uint64_t
 		return nil, ErrBusy
 	}
 	defer held.RUnlock()
-	for there := shortPage; ; {
+	for there := shortPage; ; there *= growth {
 		ids := make([]uint64, there)
 		status := page(held, (*C.uint64_t)(unsafe.Pointer(&ids[0])), C.size_t(there), count)
 		if status == C.PIDTAB_OUT_OF_RANGE {
@@ -35,9 +35,8 @@ func (table *Table) ids(absent error, page func(held *heldTable, ids *C.uint64_t
 		if err := faultOf(uint32(status)); err != nil {
 			return nil, err
 		}
-		there = int(*count)
-		if there <= len(ids) {
-			return ids[:there], nil
+		if told := int(*count); told <= there {
+			return ids[:told], nil
 		}
 	}
 }

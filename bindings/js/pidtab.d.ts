@@ -180,7 +180,7 @@ export interface Ask extends Queries {
   groupMembers(caller: number, group?: number, start?: number): number[];
   /** The members of the session with the number `session`, where 0 is the caller's own, as `children` has those of a task. It takes memory for a list. no-caller, NoMemory. */
   sessionMembers(caller: number, session?: number, start?: number): number[];
-  /** The tasks of the namespace that the task `pid` is in, where 0 is the caller, those in namespaces inside it too, as `children` has those of a task. Of the caller's own namespace these are all that it sees: whom kill(2) of -1 reaches. It takes memory for a list. no-caller, NoMemory. */
+  /** The tasks of the namespace that the task `pid` is in, where 0 is the caller, those in namespaces inside it too, as `children` has those of a task. Of the caller's own namespace these are all that it sees, whom kill(2) of -1 reaches, and only what is told of them is read. It takes memory for a list. no-caller, NoMemory. */
   namespaceMembers(caller: number, pid?: number, start?: number): number[];
   /** Of `namespaceMembers` those that are in no namespace inside it. It takes memory for a list. no-caller, NoMemory. */
   namespaceOwn(caller: number, pid?: number, start?: number): number[];

@@ -4,7 +4,7 @@
 #include <errno.h>
 #include <stdlib.h>
 
-enum { LEAST_ROOM = 64 };
+enum { LEAST_ROOM = 64, GROWTH = 4 };
 
 uint64_t log_line;
 struct pidtab_reply reply;
@@ -162,13 +162,19 @@ uint32_t table_first(uint32_t caller, uint32_t whom, uint32_t number)
 static uint32_t *numbers;
 static uint64_t room;
 
+/* The list has room for more than are counted so far. */
+static void with_more_room(uint64_t counted)
+{
+	numbers = with_room(numbers, &room, counted > room ? GROWTH * counted : room, sizeof *numbers);
+}
+
 /* All numbers of a page, in rising order. */
 const uint32_t *table_list(uint32_t caller, uint32_t whom, uint32_t number, uint64_t *count)
 {
 	struct pidtab_reply counted = { .first = LEAST_ROOM };
 
 	do {
-		numbers = with_room(numbers, &room, counted.first, sizeof *numbers);
+		with_more_room(counted.first);
 		must(pidtab_page(&table, caller, whom, number, 0, numbers, room, &counted));
 	} while (counted.first > room);
 	*count = counted.first;
@@ -181,7 +187,7 @@ const uint32_t *table_members(uint64_t control, uint64_t *count)
 	struct pidtab_reply counted = { .first = LEAST_ROOM };
 
 	do {
-		numbers = with_room(numbers, &room, counted.first, sizeof *numbers);
+		with_more_room(counted.first);
 		must(pidtab_control_tasks(&table, SUPERVISOR, control, 0, numbers, room, &counted));
 	} while (counted.first > room);
 	*count = counted.first;

@@ -15,6 +15,9 @@ const NOT_MADE = { [STATUS.BAD_LINE]: "bad line", [STATUS.NO_MEMORY]: "no memory
 /** The room for a first try of a page, in numbers. */
 const SHORT_PAGE = 64;
 
+/** How many times as long the next room of a page is: so all tries of a list together cost little more than the last one. */
+const GROWTH = 4;
+
 /** The same of effects. */
 const SHORT_ROOM = 64;
 
@@ -195,7 +198,7 @@ export class Ask extends onOwner(Queries) {
     return aSpace(instance, instance.at.space.word);
   }
 
-  /** All ids of something that may not be there, as `_numbers` has all numbers. How many there are is told after those that are given. */
+  /** All ids of something that may not be there, as `_numbers` has all numbers. Their count is told after those that are given. */
   _ids(name, numbers, longs, asked, what, room = SHORT_PAGE) {
     const [count, ids] = this._open().withRoom(8 * room, asked, (address) => {
       const [instance, status] = this._status(name, [...numbers, address, room], longs, asked);
@@ -204,10 +207,10 @@ export class Ask extends onOwner(Queries) {
       const told = Number(instance.numberAt(longs.length));
       return [told, Array.from(instance.longs.subarray(address / 8, address / 8 + Math.min(told, room)))];
     });
-    return count > room ? this._ids(name, numbers, longs, asked, what, count) : ids;
+    return count > room ? this._ids(name, numbers, longs, asked, what, room * GROWTH) : ids;
   }
 
-  /** All numbers that are written into a room. Where that is too short, it is taken anew for as many as there are: none comes meanwhile. */
+  /** All numbers that are written into a room. Where one more is counted than it takes, there are more, and a longer one is taken: none comes meanwhile. */
   _numbers(name, numbers, longs, asked, room = SHORT_PAGE) {
     const [count, found] = this._open().withRoom(4 * room, asked, (address) => {
       const [instance, status] = this._status(name, [...numbers, address, room], longs, asked);
@@ -219,7 +222,7 @@ export class Ask extends onOwner(Queries) {
       const told = words[at + REPLY.first];
       return [told, numbersAt(words, address / 4, Math.min(told, room))];
     });
-    return count > room ? this._numbers(name, numbers, longs, asked, count) : found;
+    return count > room ? this._numbers(name, numbers, longs, asked, room * GROWTH) : found;
   }
 }
 

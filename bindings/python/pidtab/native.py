@@ -39,8 +39,9 @@ from pidtab.raw import (
 # The room for a first try of a list or a text.
 SHORT_TEXT = 4096
 
-# The same of a page, in numbers.
+# The same of a page, in numbers, and how many times as long the next one is: so all tries of a list together cost little more than the last one.
 SHORT_PAGE = 64
+GROWTH = 4
 
 GREATEST_PID = 2**32 - 1
 GREATEST_ID = 2**64 - 1
@@ -177,7 +178,7 @@ def read_task(asked: str, read: Callable[[PidtabTask], int]) -> Stat:
 
 
 def read_numbers(asked: str, read: Callable[..., int]) -> tuple[int, ...]:
-    """All numbers that are asked for, by a function that writes as many as there is room for, and tells in a reply how many there are."""
+    """All numbers that are asked for, by a function that writes as many as there is room for, and whose reply counts one more where there are more."""
     reply, there = PidtabReply(), SHORT_PAGE
     while True:
         room = (ctypes.c_uint32 * there)()
@@ -188,8 +189,7 @@ def read_numbers(asked: str, read: Callable[..., int]) -> tuple[int, ...]:
             raise refusal_of(reply.error, asked, say_why(reply.refusal, reply.first))
         if reply.first <= there:
             return tuple(room[: reply.first])
-        # Until the next try, other threads may make more. Each room is larger than the last, and no table has more tasks than numbers.
-        there = reply.first + reply.first // 8
+        there *= GROWTH
 
 
 def absent(asked: str, what: str) -> LookupError:
@@ -198,7 +198,8 @@ def absent(asked: str, what: str) -> LookupError:
 
 
 def read_ids(asked: str, what: str, read: Callable[..., int]) -> tuple[int, ...]:
-    """All ids that are asked for, by a function that writes as many as there is room for, and counts all; of something that may not be there."""
+    """All ids that are asked for, by a function that writes as many as there is room for, and counts one more where there are more; of something that may not
+    be there."""
     count, there = ctypes.c_uint64(), SHORT_PAGE
     while True:
         room = (ctypes.c_uint64 * there)()
@@ -209,8 +210,7 @@ def read_ids(asked: str, what: str, read: Callable[..., int]) -> tuple[int, ...]
             raise fault_of(status, asked)
         if count.value <= there:
             return tuple(room[: count.value])
-        # Until the next try, other threads may make more.
-        there = count.value + count.value // 8
+        there *= GROWTH
 
 
 def read_space(asked: str, what: str, read: Callable[[PidtabSpace], int]) -> SpaceStat:
@@ -375,8 +375,8 @@ class Ask(OfTable, Queries):
         """The tasks of the namespace that the task `pid` is in, where 0 is the caller, those in namespaces inside it too, as `children` has those of
         a task.
 
-        Of the caller's own namespace these are all that it sees: whom kill(2) of -1 reaches. It takes memory for a list: where there is none, it is a
-        MemoryError. no-caller.
+        Of the caller's own namespace these are all that it sees, whom kill(2) of -1 reaches, and only what is told of them is read. It takes memory
+        for a list: where there is none, it is a MemoryError. no-caller.
         """
         self._table._check_owner()
         caller, pid, start = check_range("caller", caller, 0, GREATEST_PID), check_range("pid", pid, 0, GREATEST_PID), check_range("start", start, 0, GREATEST_PID)

@@ -157,8 +157,9 @@ class Reading(unittest.TestCase):
             self.assertEqual((name, caller, control, start), ("control_tasks", 1, 2**64 - 1, 3))
             if status != DONE:
                 return status
-            reply.kind, reply.first = COUNTED, next(tries)
-            numbers[: min(room, reply.first)] = range(3, 3 + min(room, reply.first))
+            there = next(tries)
+            reply.kind, reply.first = COUNTED, min(there, room + 1)
+            numbers[: min(room, there)] = range(3, 3 + min(room, there))
             return DONE
 
         return Ask(Answered(write)).control_tasks(1, 2**64 - 1, 3)

@@ -167,7 +167,7 @@ class Reading(unittest.TestCase):
     """What is made of what the library answers; it is not needed."""
 
     def read(self, *counts: int, status: int = DONE) -> tuple[int, ...]:
-        """All numbers, where so many are there at each try: the rooms must be large enough for those that the last try has told."""
+        """All numbers, where so many are there at each try."""
         tries = iter(counts)
         self.rooms: list[int] = []
 
@@ -176,8 +176,9 @@ class Reading(unittest.TestCase):
             self.rooms.append(room)
             if status != DONE:
                 return status
-            reply.kind, reply.first = COUNTED, next(tries)
-            numbers[: min(room, reply.first)] = range(3, 3 + min(room, reply.first))
+            there = next(tries)
+            reply.kind, reply.first = COUNTED, min(there, room + 1)
+            numbers[: min(room, there)] = range(3, 3 + min(room, there))
             return DONE
 
         return Ask(Answered(write)).children(1, 2, 3)
@@ -187,8 +188,8 @@ class Reading(unittest.TestCase):
         self.assertEqual(self.read(SHORT_PAGE), tuple(range(3, SHORT_PAGE + 3)))
         self.assertEqual(self.rooms, [SHORT_PAGE])
         # Others are faster twice: each room is larger than the last.
-        self.assertEqual(self.read(100, 200, 150), tuple(range(3, 153)))
-        self.assertEqual(self.rooms, [SHORT_PAGE, 112, 225])
+        self.assertEqual(self.read(SHORT_PAGE + 1, 4 * SHORT_PAGE + 1, 150), tuple(range(3, 153)))
+        self.assertEqual(self.rooms, [SHORT_PAGE, 4 * SHORT_PAGE, 16 * SHORT_PAGE])
 
     def test_statuses(self) -> None:
         with self.assertRaises(MemoryError):

@@ -4,7 +4,11 @@ use crate::{raw, Error, Reply};
 /// The room for a first try, in numbers.
 const SHORT: usize = 64;
 
-/// All numbers of a function of the library that writes as many as there is room for, and whose reply counts all. Between two tries nothing changes.
+/// How many times as long the next room is: so all tries of a list together cost little more than the last one.
+pub(crate) const GROWTH: usize = 4;
+
+/// All numbers of a function of the library that writes as many as there is room for, and whose reply counts one more where there are more. Between two
+/// tries nothing changes.
 pub(crate) fn all(
     mut page: impl FnMut(&mut [u32], &mut raw::Reply) -> u32,
 ) -> Result<Vec<u32>, Error> {
@@ -15,14 +19,15 @@ pub(crate) fn all(
             .map_err(|_| Error::NoMemory)?;
         numbers.resize(there, 0);
         Error::unless_done(page(&mut numbers, &mut reply))?;
-        there = match Reply::of(&reply) {
+        let count = match Reply::of(&reply) {
             Reply::Counted(count) => count as usize,
             other => return other.refused(None),
         };
-        if there <= numbers.len() {
-            numbers.truncate(there);
+        if count <= there {
+            numbers.truncate(count);
             return Ok(numbers);
         }
+        there *= GROWTH;
     }
 }
 

@@ -130,8 +130,8 @@ impl Table {
     }
 
     /// The tasks of the namespace that the task `pid` is in, where 0 is the caller, those in namespaces inside it too, as
-    /// [`Table::children`] has those of a task. Of the caller's own namespace these are all that it sees: whom kill(2) of -1 reaches. It
-    /// takes memory for a list.
+    /// [`Table::children`] has those of a task. Of the caller's own namespace these are all that it sees, whom kill(2) of -1 reaches, and
+    /// only what is told of them is read. It takes memory for a list.
     ///
     /// It is no call, as [`Table::ask`] makes none.
     ///

@@ -1,4 +1,5 @@
 //! A namespace in one read.
+use crate::page::GROWTH;
 use crate::{raw, Error};
 
 /// A namespace, as a read of its id tells it.
@@ -36,8 +37,8 @@ impl SpaceStat {
 /// The room for a first try, in ids.
 const SHORT: usize = 64;
 
-/// All ids of a function of the library that writes as many as there is room for, and counts all; none where it has no such id. Between two tries nothing
-/// changes.
+/// All ids of a function of the library that writes as many as there is room for, and counts one more where there are more; none where it has no such id.
+/// Between two tries nothing changes.
 pub(crate) fn inside(
     mut page: impl FnMut(&mut [u64], &mut u64) -> u32,
 ) -> Result<Option<Vec<u64>>, Error> {
@@ -51,11 +52,11 @@ pub(crate) fn inside(
             return Ok(None);
         }
         Error::unless_done(status)?;
-        there = count as usize;
-        if there <= ids.len() {
-            ids.truncate(there);
+        if count <= there as u64 {
+            ids.truncate(count as usize);
             return Ok(Some(ids));
         }
+        there *= GROWTH;
     }
 }
 

@@ -22,8 +22,8 @@ pub fn read_page(caller: u32, whom: u32, number: u32, from: u32) -> Option<Page>
     })
 }
 
-/// Writes the numbers of the page over the front of the room, and tells how many there are, or the refusal. The result
-/// is the status.
+/// Writes the numbers of the page over the front of the room, and tells how many there are, or one more than the room
+/// takes where there are more, or the refusal. The result is the status.
 pub fn tell_page(table: &PidTable, page: &Page, room: &mut [u32], reply: &mut ReplyNumbers) -> u32
     ensures done { result ≡ DONE → PutsPage table.now page.now room.old room.new reply.new }
     ensures not_done_room { result ≢ DONE → room.new ≡ room.old }

@@ -11,7 +11,8 @@ use foreign_numbers::status::{CLOSED, NO_MEMORY, OUT_OF_RANGE};
 
 /// Writes the ids, from one on, of the namespaces that are directly in the one with the id, where the tree is `SPACES`;
 /// or of the control groups that are directly in the one with the id, where it is `CONTROLS`. They come in rising
-/// order, as many as there is room for, and what is behind them stays. The count is how many there are in all.
+/// order, as many as there is room for, and what is behind them stays. The count is how many there are, or one more
+/// than the room takes where there are more.
 ///
 /// `CLOSED` where there is no open table; then `OUT_OF_RANGE` for another tree, or where it has no such id;
 /// `NO_MEMORY`. It costs a search, a few reads for each of them, and the sorting of their ids, for which it takes

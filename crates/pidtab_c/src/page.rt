@@ -18,12 +18,13 @@ use foreign_numbers::status::{CLOSED, NO_MEMORY, OUT_OF_RANGE};
 /// whoever has none there is left out. A number of 0 is the caller itself, its own group or its own session, seen or
 /// not. One that names nobody has an empty page.
 ///
-/// As many are written as there is room for, and what is behind them stays. The reply tells how many there are in all,
-/// as that of a count, or that there is no caller.
+/// As many are written as there is room for, and what is behind them stays. The reply tells how many there are, or one
+/// more than the room takes where there are more, as that of a count; or that there is no caller.
 ///
-/// `CLOSED` where there is no open table; then `OUT_OF_RANGE` for another `whom`; `NO_MEMORY`. It costs a search, a few
-/// reads for each child or member, for each task that a namespace sees a search more, and the sorting of their numbers,
-/// for which it takes memory while it lasts.
+/// `CLOSED` where there is no open table; then `OUT_OF_RANGE` for another `whom`; `NO_MEMORY`. Of the caller's own
+/// namespace it costs a search and a few reads for each number that it passes, until it has one more than the room
+/// takes. Else it costs a search, a few reads for each child or member, for each task that a namespace sees a search
+/// more, and the sorting of their numbers. It takes memory while it lasts.
 #[unsafe(no_mangle)]
 pub extern "C" fn pidtab_page(
     table: &mut Pidtab,

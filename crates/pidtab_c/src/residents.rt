@@ -14,8 +14,9 @@ use foreign_numbers::status::{CLOSED, NO_MEMORY};
 /// kernel's file `cgroup.procs` lists them (the cgroup-v2 document, "Processes": no zombie). They are the numbers in
 /// the caller's namespace, in rising order, and whoever has none there is left out.
 ///
-/// As many are written as there is room for, and what is behind them stays. The reply tells how many there are in all,
-/// as that of a count, or that there is no caller, or else no such control group.
+/// As many are written as there is room for, and what is behind them stays. The reply tells how many there are, or one
+/// more than the room takes where there are more, as that of a count; or that there is no caller, or else no such
+/// control group.
 ///
 /// `CLOSED` where there is no open table; then `NO_MEMORY`. It costs two searches, a few reads for each live task of
 /// the control group, and the sorting of their numbers, for which it takes memory while it lasts.

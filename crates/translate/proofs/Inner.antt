@@ -1,5 +1,5 @@
 -- What is directly inside, by keys and in the model.
-use Rattle.std.proofs.Common.{◌≡◌, ℕ, ◌≤◌, ◌==◌, Bool, true, nat_le, List, [], ◌∷◌, map, filter, filter_map, slice_get, Option, Some, None, IsSome, option_map, option_and_then, length, refl, sym, ap, subst, ◌∙◌, arith}
+use Rattle.std.proofs.Common.{◌≡◌, ℕ, ◌≤◌, ◌==◌, Bool, true, nat_le, List, [], ◌∷◌, map, filter, filter_map, slice_get, Option, Some, None, IsSome, option_map, option_and_then, length, take, ◌+◌, refl, sym, ap, subst, ◌∙◌, arith}
 use Rattle.std.specs.Option.{option_eq}
 use Rattle.std.specs.List.{AllByRecursion}
 use Rattle.std.specs.List.Sorted.{IsPermutation, IsSorted}
@@ -23,7 +23,8 @@ use Rattle.task_table.proofs.Around.{space-from, space-in}
 use Rattle.task_table.proofs.Places.{each-in}
 use Rattle.translate.specs.Inside.{AreFrom}
 use Rattle.translate.specs.Listed.{TellsList}
-use Rattle.translate.specs.Pages.{with_front, AreListedFrom}
+use Rattle.translate.specs.Pages.{with_front, AreListedFrom, AreLeastFrom}
+use Rattle.translate.proofs.LeastFrom.{least}
 use Rattle.translate.proofs.Rising.{once-each, once-found, times-filter, times-IsIn, times-permuted, IsIn-permuted, IsIn-unpermuted, rising-once}
 
 le-from : (a b : ℕ) → nat_le a b ≡ true → a ≤ b
@@ -141,14 +142,15 @@ in-order numbers from xs ys g p sorted = record {
   );
 }
 
-pub told-some : (numbers : Option (List ℕ)) (from : ℕ) (xs ys old new : List ℕ) (count : Option ℕ) → (all : List ℕ) × (numbers ≡ Some all) × AreFrom all from xs
-    → IsPermutation xs ys → IsSorted nat_cmp ys → new ≡ with_front ys old → count ≡ Some (length ys) → TellsList numbers from old new count
-told-some numbers from xs ys old new count found p sorted put many = record {
+pub told-some : (numbers : Option (List ℕ)) (from : ℕ) (xs ys front old new : List ℕ) (count : Option ℕ) → (all : List ℕ) × (numbers ≡ Some all) × AreFrom all from xs
+    → IsPermutation xs ys → IsSorted nat_cmp ys → front ≡ take (length old + 1) ys → new ≡ with_front front old → count ≡ Some (length front) → TellsList numbers from old new count
+told-some numbers from xs ys front old new count found p sorted cut put many = record {
   none = λ e. absurd (let z : None ≡ Some found.0 = sym e ∙ found.1 in cc);
   listed = λ all e. (
       let z : Some found.0 ≡ Some all = sym found.1 ∙ e in
       let same : found.0 ≡ all = cc in
-      (ys, subst (λ ns. AreListedFrom ns from ys) same (in-order found.0 from xs ys found.2 p sorted), many, put)
+      let least_ones = subst (λ ns. AreLeastFrom ns from (length old + 1) (take (length old + 1) ys)) same (least found.0 from (length old + 1) ys (in-order found.0 from xs ys found.2 p sorted)) in
+      (front, subst (AreLeastFrom all from (length old + 1)) (sym cut) least_ones, many, put)
       );
 }
 

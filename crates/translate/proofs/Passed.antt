@@ -1,10 +1,11 @@
 -- The tasks of a namespace by a walk over its numbers, and in the model.
-use Rattle.std.proofs.Common.{◌≡◌, ◌≢◌, ◌⊎◌, inl, inr, ℕ, zero, suc, ◌+◌, ◌<◌, ◌≤◌, ◌==◌, Bool, true, false, nat_le, List, [], ◌∷◌, ◌++◌, filter, filter_map, Option, Some, None, IsSome, is_some, if◌then◌else◌, cond, option_map, refl, sym, ap, subst, ◌∙◌, arith}
+use Rattle.std.proofs.Common.{◌≡◌, ◌≢◌, ◌⊎◌, inl, inr, ℕ, zero, suc, ◌+◌, ◌<◌, ◌≤◌, ◌==◌, Bool, true, false, nat_le, List, [], ◌∷◌, ◌++◌, length, take, filter, filter_map, Option, Some, None, IsSome, is_some, if◌then◌else◌, cond, option_map, refl, sym, ap, subst, ◌∙◌, arith}
 use Rattle.std.specs.Option.{option_eq}
 use Rattle.std.specs.List.Sorted.{IsPermutation, IsSorted}
 use Rattle.std.specs.Ordering.{nat_cmp}
 use Rattle.std.proofs.lemmas.Bool.{cases_eq, eq-eqb}
-use Rattle.std.proofs.lemmas.List.Sorted.{IsNonDecreasingBy-from_sort}
+use Rattle.std.proofs.lemmas.List.Sorted.{IsNonDecreasingBy-from_sort, length_permutation}
+use Rattle.std.proofs.lemmas.List.{length-append, take_all}
 use Rattle.std.proofs.lemmas.List.Sums.{sum_by-append}
 use Rattle.pid_types.proofs.General.{apart, held, some_number}
 use Rattle.pid_types.specs.declared.call.Kind.TheVariants.{Task as AsTask}
@@ -26,8 +27,9 @@ use Rattle.translate.specs.declared.members.Reach.{Reach}
 use Rattle.translate.specs.declared.members.Reach.TheVariants.{Own, Subtree}
 use Rattle.translate.specs.Gathered.{numbers_of_keys}
 use Rattle.translate.specs.Members.{is_among, visible_numbers}
-use Rattle.translate.specs.Pages.{AreListedFrom}
-use Rattle.translate.specs.Passed.{is_reached, numbers_passed, IsBehindCursor, ArePassed}
+use Rattle.translate.specs.Pages.{AreListedFrom, AreLeastFrom}
+use Rattle.translate.specs.Passed.{is_reached, numbers_passed, IsBehindCursor, ArePassed, ArePassedFor}
+use Rattle.translate.proofs.LeastFrom.{least}
 use Rattle.translate.proofs.Parts.{task-used, used-task}
 use Rattle.translate.proofs.Rising.{zero-of, times-cons, times-IsIn, times-permuted, IsIn-permuted, IsIn-unpermuted, rising-once}
 
@@ -75,6 +77,38 @@ module _ (s : Store) (l : IsLawful s) (asked : Asked) where
               test : (b : Bool) → nat_le asked.from x ≡ b → times m (numbers_of_keys s.numbering asked.viewer asked.from (k ∷ [])) ≤ 1
               test false out = rw (is, out) (omega arith)
               test true out = rw (is, out) (one x)
+
+  -- one task adds at most one number
+  added-few : (k : ℕ) → length (numbers_passed s.numbering asked k) ≤ 1
+  added-few k = go (is_reached s.numbering asked.reach asked.space k)
+    where
+      go : (b : Bool) → length (if b then numbers_of_keys s.numbering asked.viewer asked.from (k ∷ []) else []) ≤ 1
+      go false = omega arith
+      go true = has (number_of s.numbering k asked.viewer) refl
+        where
+          has : (o : Option ℕ) → number_of s.numbering k asked.viewer ≡ o → length (numbers_of_keys s.numbering asked.viewer asked.from (k ∷ [])) ≤ 1
+          has None is = rw is (omega arith)
+          has (Some x) is = test (nat_le asked.from x) refl
+            where
+              test : (b : Bool) → nat_le asked.from x ≡ b → length (numbers_of_keys s.numbering asked.viewer asked.from (k ∷ [])) ≤ 1
+              test false out = rw (is, out) (omega arith)
+              test true out = rw (is, out) (omega arith)
+
+  pub added-length : (k room : ℕ) (xs : List ℕ) → length xs ≤ room → length (xs ++ numbers_passed s.numbering asked k) ≤ room + 1
+  added-length k room xs few = let one = added-few k in omega (arith, few, one, length-append xs (numbers_passed s.numbering asked k))
+
+  -- in the viewer's own namespace a task has one number
+  own-number : (cursor m : ℕ) → asked.viewer ≡ asked.space → (p : IsBehindCursor s asked cursor m) → p.own ≡ m
+  own-number cursor m same p =
+      let z : Some p.own ≡ Some m = sym p.inside ∙ ap (number_of s.numbering p.key) (sym same) ∙ p.has in
+      cc
+
+  -- there nobody below the first number that is listed is asked for
+  pub none-below : asked.viewer ≡ asked.space → ArePassed s asked asked.from []
+  none-below same = record {
+    once = λ m. omega arith;
+    each = λ m. ((λ on. absurd on), (λ h. absurd (let lt = h.1.passed in let is = own-number asked.from m same h.1 in let le = h.0 in omega (arith, lt, is, le))));
+  }
 
   -- nobody is passed at first
   pub none-passed : ArePassed s asked 0 []
@@ -147,13 +181,24 @@ module _ (s : Store) (l : IsLawful s) (asked : Asked) where
                   absurd (differs (omega (arith, far, lt)))
               below false is = grind (arith, is)
 
+  -- each number is in its range
+  in-range : (cursor m : ℕ) → IsBehindCursor s asked cursor m → IsBehindCursor s asked s.numbering.pid_max m
+  in-range cursor m p = record {
+    key = p.key;
+    task = p.task;
+    meant = p.meant;
+    own = p.own;
+    inside = p.inside;
+    passed = (l.numbering.range p.key asked.space p.own p.inside).1;
+    has = p.has;
+  }
+
   -- where no number is left, all are passed
-  pub all-passed : (at : ℕ) (xs : List ℕ) → ArePassed s asked at xs → at ≤ s.numbering.pid_max → ((m : ℕ) → at ≤ m → IsNumberUsedAs s.numbering AsTask asked.space m → ⊥) → ArePassed s asked s.numbering.pid_max xs
-  all-passed at xs was le none = record {
+  pub all-passed : (at : ℕ) (xs : List ℕ) → ArePassed s asked at xs → ((m : ℕ) → at ≤ m → IsNumberUsedAs s.numbering AsTask asked.space m → ⊥) → ArePassed s asked s.numbering.pid_max xs
+  all-passed at xs was none = record {
     once = was.once;
     each = λ m. (
-      (λ on. let h = (was.each m).0 on in let p = h.1 in let lt = p.passed in
-          (h.0, record { key = p.key; task = p.task; meant = p.meant; own = p.own; inside = p.inside; passed = omega (arith, lt, le); has = p.has })),
+      (λ on. let h = (was.each m).0 on in (h.0, in-range at m h.1)),
       (λ h. (was.each m).1 (h.0, before m h.1)),
     );
   }
@@ -237,3 +282,42 @@ module _ (s : Store) (l : IsLawful s) (asked : Asked) where
         (λ h. IsIn-permuted m xs ys p ((g.each m).1 (h.0, to-passed m h.1))),
       );
     }
+
+    -- of the viewer's own namespace, those below a cursor
+    below-cursor : (cursor most : ℕ) (xs ys : List ℕ) → asked.viewer ≡ asked.space → length ys ≡ most → ArePassed s asked cursor xs → IsPermutation xs ys → IsSorted nat_cmp ys
+        → AreLeastFrom (visible_numbers (state_of s) asked.reach i v) asked.from most ys
+    below-cursor cursor most xs ys same many g p sorted = record {
+      rising = rising-once ys (IsNonDecreasingBy-from_sort (λ x. x) ys sorted) (λ m. let e = times-permuted m xs ys p in let one = g.once m in omega (arith, e, one));
+      few = omega (arith, many);
+      each = λ m on. (let h = (g.each m).0 (IsIn-unpermuted m xs ys p on) in (h.0, of-passed m (in-range cursor m h.1)));
+      others = λ m le on. other m le (to-passed m on);
+    }
+      where
+        other : (m : ℕ) → asked.from ≤ m → IsBehindCursor s asked s.numbering.pid_max m → IsIn m ys ⊎ ((length ys ≡ most) × ((k : ℕ) → IsIn k ys → k < m))
+        other m le q = go (nat_le cursor q.own) refl
+          where
+            go : (b : Bool) → nat_le cursor q.own ≡ b → IsIn m ys ⊎ ((length ys ≡ most) × ((k : ℕ) → IsIn k ys → k < m))
+            go false is =
+                let lt : q.own < cursor = grind (arith, is) in
+                inl (IsIn-permuted m xs ys p ((g.each m).1 (le, record { key = q.key; task = q.task; meant = q.meant; own = q.own; inside = q.inside; passed = lt; has = q.has })))
+            go true is = inr (many, below)
+              where
+                below : (k : ℕ) → IsIn k ys → k < m
+                below k on =
+                    let up : cursor ≤ q.own = grind (arith, is) in
+                    let h = ((g.each k).0 (IsIn-unpermuted k xs ys p on)).1 in
+                    let lt = h.passed in
+                    let mine = own-number s.numbering.pid_max m same q in
+                    let its = own-number cursor k same h in
+                    omega (arith, up, lt, mine, its)
+
+    -- what was gathered for a room, in order and cut
+    pub listed_for : (room : ℕ) (xs ys front : List ℕ) → ArePassedFor s asked room xs → IsPermutation xs ys → IsSorted nat_cmp ys → front ≡ take (room + 1) ys
+        → AreLeastFrom (visible_numbers (state_of s) asked.reach i v) asked.from (room + 1) front
+    listed_for room xs ys front (inl all) p sorted cut =
+        subst (AreLeastFrom (visible_numbers (state_of s) asked.reach i v) asked.from (room + 1)) (sym cut)
+        (least (visible_numbers (state_of s) asked.reach i v) asked.from (room + 1) ys (listed xs ys all p sorted))
+    listed_for room xs ys front (inr own) p sorted cut =
+        let many : length ys ≡ room + 1 = length_permutation xs ys p ∙ own.1 in
+        subst (AreLeastFrom (visible_numbers (state_of s) asked.reach i v) asked.from (room + 1)) (sym (cut ∙ take_all (room + 1) ys (omega (arith, many))))
+        (below-cursor own.2.0 (room + 1) xs ys own.0 many own.2.1 p sorted)

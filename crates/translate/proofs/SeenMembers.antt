@@ -17,7 +17,8 @@ use Rattle.model_laws.proofs.Lists.{IsIn-filter_map, IsIn-from_filter_map}
 use Rattle.translate.specs.declared.members.Reach.{Reach}
 use Rattle.translate.specs.declared.members.Reach.TheVariants.{Own, Subtree}
 use Rattle.translate.specs.Members.{is_among, visible_numbers, glimpses_in, members_seen}
-use Rattle.translate.specs.Pages.{AreListedFrom}
+use Rattle.translate.specs.Pages.{AreLeastFrom}
+use Rattle.translate.proofs.LeastFrom.{same_least}
 
 -- what has the number above 0 is seen with it
 pub seen_with : (o : Option ℕ) (m : ℕ) → o ≡ Some m → unwrap_or o 0 ≡ m
@@ -120,8 +121,6 @@ module _ (state : State) (sound : IsCoherent state) (s : ℕ) where
         IsIn-filter_map (λ x. number state.spaces x.name s) r.0 m (filter (is_among state.spaces reach s) state.rows)
         (IsIn-filter (is_among state.spaces reach s) r.0 state.rows r.1 (r.3 m has)) has
 
-    pub members_listed : (from : ℕ) (listed : List ℕ) → AreListedFrom (visible_numbers state reach s s) from listed → AreListedFrom (members_seen reach (sight state s)) from listed
-    members_listed from listed l = record {
-      rising = l.rising;
-      each = λ m. ((λ i. let h = (l.each m).0 i in (h.0, to_seen m h.1)), (λ h. (l.each m).1 (h.0, of_seen m h.1)));
-    }
+    pub members_listed : (from most : ℕ) (listed : List ℕ) → AreLeastFrom (visible_numbers state reach s s) from most listed
+        → AreLeastFrom (members_seen reach (sight state s)) from most listed
+    members_listed from most listed = same_least (visible_numbers state reach s s) (members_seen reach (sight state s)) from most listed to_seen of_seen

@@ -1,5 +1,5 @@
 -- A page is answered from what the caller's namespace sees.
-use Rattle.std.proofs.Common.{◌≡◌, ℕ, ◌<◌, ◌==◌, Bool, true, false, nat_lt, List, [], length, map, filter, Option, Some, None, if◌then◌else◌, option_map, unwrap_or, refl, sym, ap, subst, ◌∙◌, arith}
+use Rattle.std.proofs.Common.{◌≡◌, ℕ, ◌<◌, ◌+◌, ◌==◌, Bool, true, false, nat_lt, List, [], length, map, filter, Option, Some, None, if◌then◌else◌, option_map, unwrap_or, refl, sym, ap, subst, ◌∙◌, arith}
 use Rattle.std.specs.Option.{option_map_or, option_eq}
 use Rattle.std.proofs.lemmas.Bool.{eq-eqb, eqb-true, ne_eqb}
 use Rattle.pid_types.proofs.General.{some_number, number_tested}
@@ -24,7 +24,8 @@ use Rattle.translate.specs.declared.page.Page.{Page}
 use Rattle.translate.specs.declared.page.Whom.{Whom}
 use Rattle.translate.specs.declared.page.Whom.TheVariants.{Belonging, Namespace}
 use Rattle.translate.specs.Members.{visible_numbers, members_seen}
-use Rattle.translate.specs.Pages.{belongs_to, is_meant, belongs, numbers_belonging, numbers_asked, AreListedFrom, TellsPage, owner_seen, numbers_seen, numbers_seen_by, IsInSight, TellsSeenPage}
+use Rattle.translate.specs.Pages.{belongs_to, is_meant, belongs, numbers_belonging, numbers_asked, AreLeastFrom, TellsPage, owner_seen, numbers_seen, numbers_seen_by, IsInSight, TellsSeenPage}
+use Rattle.translate.proofs.LeastFrom.{same_least}
 use Rattle.translate.proofs.SeenMembers.{alone, members_listed, seen_with, has_seen}
 
 -- what has the number above 0 is seen with it
@@ -133,11 +134,9 @@ module _ (state : State) (sound : IsCoherent state) (root : ℕ) (caller : Row) 
           (IsIn-filter (belongs state caller kind n) row state.rows among (belongs-is row among ∙ ap (λ k. owner_seen kind k == page_number) (sym r.2) ∙ q.1))
           has
 
-      pub listed_seen : (from : ℕ) (listed : List ℕ) → AreListedFrom (numbers_belonging state caller kind n) from listed → AreListedFrom (numbers_seen (sight state s) kind page_number) from listed
-      listed_seen from listed l = record {
-        rising = l.rising;
-        each = λ m. ((λ i. let h = (l.each m).0 i in (h.0, to_seen m h.1)), (λ h. (l.each m).1 (h.0, of_seen m h.1)));
-      }
+      pub listed_seen : (from most : ℕ) (listed : List ℕ) → AreLeastFrom (numbers_belonging state caller kind n) from most listed
+          → AreLeastFrom (numbers_seen (sight state s) kind page_number) from most listed
+      listed_seen from most listed = same_least (numbers_belonging state caller kind n) (numbers_seen (sight state s) kind page_number) from most listed to_seen of_seen
 
   -- whom a page names, as it is seen
   self_seen : (n : ℕ) → self_or_glimpse (sight state s) own n ≡ option_map (glimpse_of state s) (self_or_task state caller n)
@@ -160,11 +159,11 @@ module _ (state : State) (sound : IsCoherent state) (root : ℕ) (caller : Row) 
       go false e = let f = find-Some (λ row. is_numbered state.spaces row.name s n) state.rows task (sym (process-task state threads s n) ∙ e) in (f.0, (n, some_number (number state.spaces task.name s) n f.1))
 
   -- the tasks of the caller's own namespace are those that are seen
-  listed_namespace : (reach : Reach) (n from : ℕ) (listed : List ℕ) → IsInSight (sight state s) own (Namespace reach) n → AreListedFrom (numbers_asked state caller (Namespace reach) n) from listed
-      → AreListedFrom (members_seen reach (sight state s)) from listed
-  listed_namespace reach n from listed alone_there l = go (self_or_task state caller n) refl
+  listed_namespace : (reach : Reach) (n from most : ℕ) (listed : List ℕ) → IsInSight (sight state s) own (Namespace reach) n
+      → AreLeastFrom (numbers_asked state caller (Namespace reach) n) from most listed → AreLeastFrom (members_seen reach (sight state s)) from most listed
+  listed_namespace reach n from most listed alone_there l = go (self_or_task state caller n) refl
     where
-      go : (o : Option Row) → self_or_task state caller n ≡ o → AreListedFrom (members_seen reach (sight state s)) from listed
+      go : (o : Option Row) → self_or_task state caller n ≡ o → AreLeastFrom (members_seen reach (sight state s)) from most listed
       go None is =
           absurd (let z : None ≡ Some 1 = sym (ap (option_map (λ (g : Glimpse). length g.numbers)) (self_seen n ∙ ap (option_map (glimpse_of state s)) is)) ∙ alone_there in cc)
       go (Some task) is =
@@ -174,19 +173,19 @@ module _ (state : State) (sound : IsCoherent state) (root : ℕ) (caller : Row) 
           let count : length (numbers_from state.spaces task.name s) ≡ 1 = ap (λ o. unwrap_or o 0) one in
           let own_space = eqb-true task.name.space s
           (sym (alone state sound s task h.0 (number-within state.spaces task.name s h.1.0 h.1.1).0) ∙ eq-eqb (length (numbers_from state.spaces task.name s)) 1 count) in
-          members_listed state sound s reach from listed
-          (subst (λ t. AreListedFrom (visible_numbers state reach t s) from listed) own_space
-          (subst (λ ns. AreListedFrom ns from listed) (ap (λ o. option_map_or (λ (row : Row). visible_numbers state reach row.name.space s) o []) is) l))
+          members_listed state sound s reach from most listed
+          (subst (λ t. AreLeastFrom (visible_numbers state reach t s) from most listed) own_space
+          (subst (λ ns. AreLeastFrom ns from most listed) (ap (λ o. option_map_or (λ (row : Row). visible_numbers state reach row.name.space s) o []) is) l))
 
   -- whatever is in sight is told as it is seen
-  listed_by : (whom : Whom) (n from : ℕ) (listed : List ℕ) → IsInSight (sight state s) own whom n → AreListedFrom (numbers_asked state caller whom n) from listed
-      → AreListedFrom (numbers_seen_by (sight state s) own whom n) from listed
-  listed_by (Belonging kind) n from listed above l = listed_seen kind n above from listed l
-  listed_by (Namespace reach) n from listed one l = listed_namespace reach n from listed one l
+  listed_by : (whom : Whom) (n from most : ℕ) (listed : List ℕ) → IsInSight (sight state s) own whom n → AreLeastFrom (numbers_asked state caller whom n) from most listed
+      → AreLeastFrom (numbers_seen_by (sight state s) own whom n) from most listed
+  listed_by (Belonging kind) n from most listed above l = listed_seen kind n above from most listed l
+  listed_by (Namespace reach) n from most listed one l = listed_namespace reach n from most listed one l
 
 -- so a page that is told is told of what is seen
 pub told_seen : (state : State) → state.threads ≡ [] → state.left ≡ [] → (page : Page) (old new : List ℕ) (reply : Reply)
     → TellsPage state page old new reply → TellsSeenPage state page old new reply
 told_seen state threads left page old new reply t caller own c seen =
     let p = t.listed caller (sym (caller-live state threads left page.caller) ∙ c.live) in
-    (p.0, listed_by state c.sound.coherent page.caller caller own c.live c.own threads page.whom page.number page.from p.0 seen p.1, p.2, p.3)
+    (p.0, listed_by state c.sound.coherent page.caller caller own c.live c.own threads page.whom page.number page.from (length old + 1) p.0 seen p.1, p.2, p.3)

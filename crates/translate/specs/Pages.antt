@@ -1,5 +1,5 @@
 -- Going over the children of a task, the members of a process group or of a session, or the tasks of a namespace, by their numbers.
-use Rattle.std.specs.Prelude.{◌≡◌, ◌↔◌, ◌<◌, ◌≤◌, ℕ, Bool, false, ◌==◌, nat_lt, [], ◌++◌, List, length, take, drop, map, filter, filter_map, Option, Some, None, if◌then◌else◌, option_map}
+use Rattle.std.specs.Prelude.{◌≡◌, ◌↔◌, ◌⊎◌, ◌<◌, ◌≤◌, ◌+◌, ℕ, Bool, false, ◌==◌, nat_lt, [], ◌++◌, List, length, take, drop, map, filter, filter_map, Option, Some, None, if◌then◌else◌, option_map}
 use Rattle.std.specs.Option.{option_map_or}
 use Rattle.pid_types.specs.declared.call.Kind.{Kind}
 use Rattle.pid_types.specs.declared.call.Kind.TheVariants.{Task, Group, Session}
@@ -51,6 +51,14 @@ pub record AreListedFrom (numbers : List ℕ) (from : ℕ) (listed : List ℕ) :
   pub rising : IsRising listed
   pub each : (m : ℕ) → IsIn m listed ↔ ((from ≤ m) × IsIn m numbers)
 
+-- the list has the least of the numbers from the given one on, at most so many, each once, in rising order: where one is left out, the list
+-- has so many, all of them below it
+pub record AreLeastFrom (numbers : List ℕ) (from most : ℕ) (listed : List ℕ) : Type 0 where
+  pub rising : IsRising listed
+  pub few : length listed ≤ most
+  pub each : (m : ℕ) → IsIn m listed → (from ≤ m) × IsIn m numbers
+  pub others : (m : ℕ) → from ≤ m → IsIn m numbers → IsIn m listed ⊎ ((length listed ≡ most) × ((k : ℕ) → IsIn k listed → k < m))
+
 -- the list is the page's for the caller; or nobody calls, and there is none
 pub record ListsPage (state : State) (page : Page) (told : Option (List ℕ)) : Type 0 where
   pub nobody : live_row state.rows page.caller ≡ None → told ≡ None
@@ -61,11 +69,12 @@ pub record ListsPage (state : State) (page : Page) (told : Option (List ℕ)) : 
 abbrev pub with_front : {X : Type 0} → List X → List X → List X
 with_front listed room = take (length room) listed ++ drop (length listed) room
 
--- the list for the caller is in the room, and its length is told; or else that nobody calls
+-- the list for the caller, of at most one more than the room takes, is in the room as far as it takes it, and its length is told; or else
+-- that nobody calls
 pub record TellsPage (state : State) (page : Page) (old new : List ℕ) (reply : Reply) : Type 0 where
   pub nobody : live_row state.rows page.caller ≡ None → (reply ≡ Refused NoCaller) × (new ≡ old)
   pub listed : (caller : Row) → live_row state.rows page.caller ≡ Some caller → (listed : List ℕ)
-      × AreListedFrom (numbers_asked state caller page.whom page.number) page.from listed
+      × AreLeastFrom (numbers_asked state caller page.whom page.number) page.from (length old + 1) listed
       × (reply ≡ Counted (length listed)) × (new ≡ with_front listed old)
 
 -- the number that is seen of what the task belongs to
@@ -97,5 +106,6 @@ abbrev pub TellsSeenPage : State → Page → List ℕ → List ℕ → Reply �
 TellsSeenPage state page old new reply =
     (caller : Row) (own : ℕ) → IsLiveCaller state page.caller caller own
     → IsInSight (sight state caller.name.space) own page.whom page.number
-    → (listed : List ℕ) × AreListedFrom (numbers_seen_by (sight state caller.name.space) own page.whom page.number) page.from listed
+    → (listed : List ℕ)
+    × AreLeastFrom (numbers_seen_by (sight state caller.name.space) own page.whom page.number) page.from (length old + 1) listed
     × (reply ≡ Counted (length listed)) × (new ≡ with_front listed old)

@@ -1,5 +1,5 @@
 -- The numbers of the tasks of a namespace, by keys, as a walk over its numbers passes them.
-use Rattle.std.specs.Prelude.{◌≡◌, ◌↔◌, ◌<◌, ◌≤◌, ℕ, Bool, true, ◌==◌, List, [], ◌∷◌, Some, IsSome, is_some, if◌then◌else◌, option_map}
+use Rattle.std.specs.Prelude.{◌≡◌, ◌↔◌, ◌⊎◌, ◌<◌, ◌≤◌, ◌+◌, ℕ, Bool, true, ◌==◌, List, [], ◌∷◌, length, Some, IsSome, is_some, if◌then◌else◌, option_map}
 use Rattle.std.specs.Option.{option_eq}
 use Rattle.member_lists.specs.Owners.{times}
 use Rattle.pid_types.specs.Membership.{IsIn}
@@ -34,3 +34,9 @@ pub record IsBehindCursor (s : Store) (asked : Asked) (cursor m : ℕ) : Type 0 
 pub record ArePassed (s : Store) (asked : Asked) (cursor : ℕ) (numbers : List ℕ) : Type 0 where
   pub once : (m : ℕ) → times m numbers ≤ 1
   pub each : (m : ℕ) → IsIn m numbers ↔ ((asked.from ≤ m) × IsBehindCursor s asked cursor m)
+
+-- the list has all; or the namespace is the viewer's own, and it has those below a cursor, one more than the room takes
+abbrev pub ArePassedFor : Store → Asked → ℕ → List ℕ → Type 0
+ArePassedFor s asked room numbers =
+    ArePassed s asked s.numbering.pid_max numbers
+    ⊎ ((asked.viewer ≡ asked.space) × (length numbers ≡ room + 1) × ((cursor : ℕ) × ArePassed s asked cursor numbers))

@@ -12,7 +12,7 @@ ghost use Rattle.{
 };
 ghost use Rattle.translate.specs.declared.inside.Tree.TheVariants as trees;
 
-use crate::page::put_front;
+use crate::page::{cut, put_front};
 use pid_numbers::InnerSpaces;
 use pids_charge::InnerControls;
 use std::alloc::AllocError;
@@ -121,7 +121,8 @@ fn inner_ids(store: &Tasks, inside: &Inside) -> Result<Option<Vec<u64>>, AllocEr
 }
 
 /// Writes the ids of what is directly inside over the front of the room, in rising order, as many as it takes, and
-/// answers how many there are in all. What is behind them in the room stays.
+/// answers how many there are; but one more than the room takes where there are more. What is behind them in the room
+/// stays.
 ///
 /// None is answered where no namespace, or no control group, has the id, and then the room is as it was. The error is
 /// want of memory, and then the room is as it was too. It costs a search for the id, a few reads for each namespace or
@@ -141,6 +142,7 @@ pub fn read_inside(
         return Ok(None);
     };
     ids.sort()?;
+    cut(&mut ids, room.len());
     put_front(&ids, room);
     Ok(Some(ids.len() as u64))
 }

@@ -2,14 +2,14 @@
 //! numbers as a caller's namespace has them. So whom `kill(2)` of a process group or of -1 reaches, and what
 //! `pgrep -P`, `pgrep -s` and an `ls` of `/proc` list.
 
-ghost use Rattle.std.specs.Prelude.{◌≡◌, ◌<◌, ◌++◌, ℕ, length, Some, IfOk, OnOk, OnErr, option_map};
+ghost use Rattle.std.specs.Prelude.{◌≡◌, ◌<◌, ◌++◌, ◌+◌, ℕ, length, take, Some, IfOk, OnOk, OnErr, option_map};
 ghost use Rattle.std.specs.List.{AllByRecursion};
 ghost use Rattle.{
   pid_types.specs.{declared.call.Kind.{Kind}, Short.{reply_of}},
   pid_numbers.specs.Numbering.{id_at},
   task_table.specs.{Found.{IsFound}, View.{name_at, row_of, state_of}, Whole.{HasParents, IsWhole}},
   translate.specs.{Gathered.{numbers_of_keys, AddsGroups, AreGathered, IsMeantAlone}, Pages.{numbers_asked}},
-  translate.specs.Pages.{numbers_belonging, with_front, AreListedFrom, ListsPage, TellsPage, TellsSeenPage},
+  translate.specs.Pages.{numbers_belonging, with_front, AreLeastFrom, ListsPage, TellsPage, TellsSeenPage},
 };
 ghost use Rattle.pid_types.specs.declared.call.Kind.TheVariants as kinds;
 ghost use Rattle.translate.specs.declared.page.Whom.TheVariants as whoms;
@@ -180,17 +180,27 @@ fn find_owner(store: &Tasks, caller: &Found, kind: Kind, number: Pid) -> Option<
     })
 }
 
-/// The numbers of those who belong to what the caller means, in rising order.
+/// Keeps the first ones of the list, one more than the room takes.
+pub(crate) fn cut<T: Copy>(listed: &mut Vec<T>, room: usize)
+    ensures { listed.new.items ≡ take (room + 1) listed.old.items }
+{
+    if listed.len() > room {
+        listed.truncate(room + 1);
+    }
+}
+
+/// The least numbers of those who belong to what the caller means, in rising order, one more than the room takes.
 fn list_belonging(
     store: &Tasks,
     caller: &Found,
     kind: Kind,
     page: &Page,
+    room: usize,
 ) -> Result<Vec<Pid>, AllocError>
     requires parents { HasParents store.now }
     requires caller { IsFound store.now caller.now }
-    ensures { IfOk result (λ r. AreListedFrom (numbers_belonging (state_of store.now)
-        (row_of store.now caller.now.key caller.now.task) kind page.now.number) page.now.from r.items) }
+    ensures { IfOk result (λ r. AreLeastFrom (numbers_belonging (state_of store.now)
+        (row_of store.now caller.now.key caller.now.task) kind page.now.number) page.now.from (room + 1) r.items) }
 {
     laws(store);
     let Some(owner) = find_owner(store, caller, kind, page.number) else {
@@ -198,20 +208,23 @@ fn list_belonging(
     };
     let mut numbers = belonging(store, caller.space, kind, owner, page.from)?;
     numbers.sort()?;
+    cut(&mut numbers, room);
     Ok(numbers)
 }
 
-/// The numbers of the tasks of the namespace that the task with the page's number is in, in rising order.
+/// The least numbers of the tasks of the namespace that the task with the page's number is in, in rising order, one
+/// more than the room takes.
 fn list_namespace(
     store: &Tasks,
     caller: &Found,
     reach: Reach,
     page: &Page,
+    room: usize,
 ) -> Result<Vec<Pid>, AllocError>
     requires { IsFound store.now caller.now }
-    ensures { IfOk result (λ r. AreListedFrom (numbers_asked (state_of store.now)
+    ensures { IfOk result (λ r. AreLeastFrom (numbers_asked (state_of store.now)
         (row_of store.now caller.now.key caller.now.task) (whoms.Namespace reach) page.now.number)
-        page.now.from r.items) }
+        page.now.from (room + 1) r.items) }
 {
     let Some(task) = self_or_task(store, caller, page.number) else {
         return Ok(Vec::new(store.numbers().allocator()));
@@ -222,19 +235,25 @@ fn list_namespace(
         viewer: caller.space,
         from: page.from,
     };
-    list_members(store, &asked)
+    list_members(store, &asked, room)
 }
 
-/// The numbers that the caller's page asks for, in rising order.
-fn list_numbers(store: &Tasks, caller: &Found, page: &Page) -> Result<Vec<Pid>, AllocError>
+/// The least numbers that the caller's page asks for, in rising order, one more than the room takes.
+fn list_numbers(
+    store: &Tasks,
+    caller: &Found,
+    page: &Page,
+    room: usize,
+) -> Result<Vec<Pid>, AllocError>
     requires parents { HasParents store.now }
     requires caller { IsFound store.now caller.now }
-    ensures { IfOk result (λ r. AreListedFrom (numbers_asked (state_of store.now)
-        (row_of store.now caller.now.key caller.now.task) page.now.whom page.now.number) page.now.from r.items) }
+    ensures { IfOk result (λ r. AreLeastFrom (numbers_asked (state_of store.now)
+        (row_of store.now caller.now.key caller.now.task) page.now.whom page.now.number)
+        page.now.from (room + 1) r.items) }
 {
     match page.whom {
-        Whom::Belonging(kind) => list_belonging(store, caller, kind, page),
-        Whom::Namespace(reach) => list_namespace(store, caller, reach, page),
+        Whom::Belonging(kind) => list_belonging(store, caller, kind, page, room),
+        Whom::Namespace(reach) => list_namespace(store, caller, reach, page, room),
     }
 }
 
@@ -255,16 +274,18 @@ pub fn list_page(store: &Tasks, page: &Page) -> Result<Option<Vec<Pid>>, AllocEr
     let Some(caller) = find_live(store, page.caller) else {
         return Ok(None);
     };
-    Ok(Some(list_numbers(store, &caller, page)?))
+    Ok(Some(list_numbers(store, &caller, page, usize::MAX)?))
 }
 
 /// Writes the numbers of the page over the front of the room, in rising order, as many as it takes, and answers how
-/// many there are in all, as `Counted`. What is behind them in the room stays.
+/// many there are, as `Counted`; but one more than the room takes where there are more. What is behind them in the room
+/// stays.
 ///
 /// The refusal is `NoCaller` where no live task has the caller's root number. A number that names nobody has an empty
-/// page. The error is want of memory, and then the room is as it was. It costs a search, a few reads for each child or
-/// member, for each task that a namespace sees a search more, and the sorting of their numbers; it looks at no other
-/// task.
+/// page. The error is want of memory, and then the room is as it was. Of the caller's own namespace it costs a search
+/// and a few reads for each number that it passes, until it has one more than the room takes. Else it costs a search, a
+/// few reads for each child or member, for each task that a namespace sees a search more, and the sorting of their
+/// numbers; it looks at no other task.
 pub fn read_page(store: &Tasks, page: &Page, room: &mut [Pid]) -> Result<ShortReply, AllocError>
     requires { IsWhole store.now }
     ensures told { IfOk result (λ reply. TellsPage (state_of store.now) page.now room.old room.new (reply_of reply)) }
@@ -275,7 +296,7 @@ pub fn read_page(store: &Tasks, page: &Page, room: &mut [Pid]) -> Result<ShortRe
     let Some(caller) = find_live(store, page.caller) else {
         return Ok(ShortReply::Refused(Refusal::NoCaller));
     };
-    let listed = list_numbers(store, &caller, page)?;
+    let listed = list_numbers(store, &caller, page, room.len())?;
     put_front(&listed, room);
     Ok(ShortReply::Counted(listed.len() as u64))
 }

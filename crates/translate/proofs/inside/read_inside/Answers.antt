@@ -9,9 +9,9 @@ pub returns-clause-told : goal.returns-clause-told
 returns-clause-told c =
     let numbers = ids_inside (state_of c.args.store.now) c.args.inside.now in
     let gathered = subst (λ (o : Option (Vec ℕ Global)). AreGatheredFrom numbers c.args.inside.now.from (option_map (λ v. v.items) o)) c.in-Some.is c.in_ok-found.ensures in
-    told-some numbers c.args.inside.now.from c.in-Some.ids.items c.sort.new.self.items c.args.room.now c.put_front.new.room _ gathered
-    c.sort.ensures.permutation c.in_ok-sort.ensures.sorted
-    (c.put_front.ensures ∙ ap (λ ids. with_front ids c.args.room.now) c.deref.ensures.value) (ap Some (c.len.ensures ∙ c.sort.new.self.ok.0))
+    told-some numbers c.args.inside.now.from c.in-Some.ids.items c.sort.new.self.items c.cut.new.listed.items c.args.room.now c.put_front.new.room _ gathered
+    c.sort.ensures.permutation c.in_ok-sort.ensures.sorted c.cut.ensures
+    (c.put_front.ensures ∙ ap (λ ids. with_front ids c.args.room.now) c.deref.ensures.value) (ap Some (c.len.ensures ∙ c.cut.new.listed.ok.0))
 
 pub returns-in_default-clause-told : goal.returns-in_default-clause-told
 returns-in_default-clause-told c =
