@@ -55,7 +55,6 @@ pub fn first_refusal_answers()
 {}
 
 /// A refused call, a query and a wait that reaps nothing leave the state as it was.
-#[tactic(auto, using(crate::proofs::Refusals::refusal_changes_nothing, crate::proofs::Refusals::query_changes_nothing, crate::proofs::Refusals::none_yet_changes_nothing))]
 pub fn nothing_changes()
     ensures refusal { RefusalChangesNothing }
     ensures query { QueryChangesNothing }
@@ -63,7 +62,6 @@ pub fn nothing_changes()
 {}
 
 /// No fork and no new thread raises a count above its limit, in one call and in every run.
-#[tactic(auto, using(crate::proofs::Limits::fork_keeps_limits, crate::proofs::Limits::thread_keeps_limits, crate::proofs::Limits::run_within))]
 pub fn forks_keep_limits()
     ensures call { ForkKeepsLimits }
     ensures thread { ThreadKeepsLimits }

@@ -1,5 +1,5 @@
 -- One call about threads, as one step from state to state. The table does not take these calls yet.
-use Rattle.std.specs.Prelude.{ℕ, ◌+◌, List, [], ◌∷◌}
+use Rattle.std.specs.Prelude.{ℕ, ◌+◌, List, [], ◌∷◌, Bool, true, false}
 use Rattle.pid_types.specs.declared.call.Call.{Call}
 use Rattle.pid_types.specs.declared.reply.Reply.{Reply}
 use Rattle.pid_types.specs.State.{State}
@@ -18,6 +18,12 @@ thread_step state (Leave caller status) = leave state caller status
 thread_step state (GetTid caller) = answered state (get_tid state caller)
 thread_step state (GetTgid caller target) = answered state (get_tgid state caller target)
 thread_step state (NextThread caller from) = answered state (next_thread state caller from)
+
+-- whether the call may need memory for what it makes
+abbrev pub thread_may_grow : ThreadCall → Bool
+thread_may_grow (NewThread caller) = true
+thread_may_grow (Leave caller status) = true
+thread_may_grow _ = false
 
 -- a call of the table, or one about threads
 pub data AnyCall : Type 0 where

@@ -1,9 +1,8 @@
-//! Any call: [`PlainTable::step`] picks the method that makes it, and [`PlainTable::thread_step`] that
-//! of a call about threads. The record makes all its calls
-//! so. The methods, of which each stands in the module of its subject, may be called one by one
-//! too.
+//! Any call: [`PlainTable::step`] picks the method that makes it, and [`PlainTable::thread_step`]
+//! that of a call about threads. The record makes all its calls so. The methods, of which each
+//! stands in the module of its subject, may be called one by one too.
 ghost use Rattle.std.specs.Prelude.{◌≡◌, IsTrue, OnOk, OnErr, IfOk};
-ghost use Rattle.pid_types.specs.{Step.{step, may_grow}, ThreadStep.{thread_step}};
+ghost use Rattle.pid_types.specs.{Step.{step, may_grow}, ThreadStep.{thread_step, thread_may_grow}};
 
 use crate::table::PlainTable;
 use pid_types::call::{Call, ThreadCall};
@@ -49,6 +48,7 @@ impl PlainTable {
         ensures state { OnOk result (self.new ≡ (thread_step self.old call).state) }
         ensures reply { IfOk result (λ reply. reply ≡ (thread_step self.old call).reply) }
         ensures err { OnErr result (self.new ≡ self.old) }
+        ensures grows { OnErr result (IsTrue (thread_may_grow call)) }
     {
         match call {
             ThreadCall::NewThread { caller } => self.thread(caller),

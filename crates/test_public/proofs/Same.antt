@@ -13,8 +13,8 @@ use Rattle.pid_types.specs.Shown.{Shows, with_count}
 use Rattle.test_public.specs.Two.{ShowSame}
 
 -- a snapshot that shows the same as one of the state shows the state
-pub shown_by_both : (s : State) (a b : Plain) → ShowSame a b → Shows s a → Shows s b
-shown_by_both s a b same shows = record {
+pub of_both : (s : State) (a b : Plain) → ShowSame a b → Shows s a → Shows s b
+of_both s a b same shows = record {
   pid_max = sym same.pid_max ∙ shows.pid_max;
   rows = sym same.rows ∙ shows.rows;
   threads = shows.threads;
@@ -24,8 +24,8 @@ shown_by_both s a b same shows = record {
 }
 
 -- snapshots of one state show the same
-pub alike_of_one : (s t : State) (a b : Plain) → s ≡ t → Shows s a → Shows t b → ShowSame a b
-alike_of_one s t a b e one other = record {
+pub alike : (s t : State) (a b : Plain) → s ≡ t → Shows s a → Shows t b → ShowSame a b
+alike s t a b e one other = record {
   pid_max = one.pid_max ∙ ap (λ u. u.pid_max) e ∙ sym other.pid_max;
   rows = one.rows ∙ ap (λ u. u.rows) e ∙ sym other.rows;
   spaces = one.spaces ∙ ap (λ u. u.spaces) e ∙ sym other.spaces;
@@ -33,8 +33,8 @@ alike_of_one s t a b e one other = record {
 }
 
 -- a state that a snapshot shows has no threads
-pub shows_no_threads : (s t : State) (a : Plain) → s ≡ t → Shows s a → (t.threads ≡ [] → t.left ≡ [] → ⊥) → ⊥
-shows_no_threads s t a e shows none = none (ap (λ u. u.threads) (sym e) ∙ shows.threads) (ap (λ u. u.left) (sym e) ∙ shows.left)
+pub threadless : (s t : State) (a : Plain) → s ≡ t → Shows s a → (t.threads ≡ [] → t.left ≡ [] → ⊥) → ⊥
+threadless s t a e shows none = none (ap (λ u. u.threads) (sym e) ∙ shows.threads) (ap (λ u. u.left) (sym e) ∙ shows.left)
 
 -- a call leaves a sound state, with ids below the next stamp
 pub kept_by_step : StepKeepsSoundness → (s t : State) (stamp next : ℕ) (call : Call) → IsSound s × IsBelow stamp s → t ≡ (step s stamp call).state → next ≡ stamp + 1 → IsSound t × IsBelow next t

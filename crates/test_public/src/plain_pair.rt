@@ -101,7 +101,7 @@ impl Pair {
     }
 
     /// What both tables show. The error is that they show two states, or want of memory.
-    #[tactic(auto, using(crate::proofs::Same::shown_by_both, crate::proofs::Same::alike_of_one, crate::proofs::Same::shows_no_threads))]
+    #[tactic(auto, using(crate::proofs::Same::of_both, crate::proofs::Same::alike, crate::proofs::Same::threadless))]
     pub fn snapshot(&self) -> Result<Plain, Fault>
         ensures plain { IfOk result (Shows self.now.plain) }
         ensures fast { IfOk result (Shows self.now.fast) }
