@@ -1,35 +1,73 @@
 """Names that tasks have outside of a table."""
 
 from abc import abstractmethod
-from collections.abc import Iterable
+from collections.abc import Callable, Collection, Iterable
+from contextlib import AbstractContextManager, nullcontext
 
 from pidtab.answers import Stat
 from pidtab.calls import Listed
 from pidtab.listing import Listing
 
 
+class Label:
+    """The label of a task, whose text is empty once it is gone."""
+
+    __slots__ = ("behind", "place", "text")
+
+    def __init__(self, text: str, place: int = 0, behind: Collection["UnderWay"] = ()) -> None:
+        self.text = text
+        # So many calls were made on the table before, and so did these, which have forked a task with its number: that one, or an earlier one.
+        self.place, self.behind = place, behind
+
+
+class UnderWay:
+    """A call that may fork, from before it is made until its tasks have no labels of others. It reads the root numbers of those that it has made by now."""
+
+    __slots__ = ("labels", "read")
+
+    def __init__(self, labels: "Labels", read: Callable[[], Collection[int]]) -> None:
+        self.labels = labels
+        self.read = read
+
+    def __enter__(self) -> None:
+        self.labels.under_way.add(self)
+
+    def __exit__(self, *_: object) -> None:
+        self.labels.end(self)
+
+
 class Labels:
     """Labels by root numbers. One goes when its number is that of another task.
 
-    A place is how many calls were made on the table: a fork at that place or after it has made another task than the one that was labelled.
+    Another thread may label a task before the one that has forked it goes on. So a label knows the forks before it: those under way that have made a task
+    with its number, or a place, which is how many calls were made on the table. No other fork of its number has made the task that was labelled.
     """
 
     def __init__(self) -> None:
-        self.by_root: dict[int, tuple[str, int]] = {}
+        self.by_root: dict[int, Label] = {}
+        self.under_way: set[UnderWay] = set()
 
     def put(self, root: int, text: str, place: int = 0) -> None:
-        """Labels a task."""
+        """Labels a task, which no call makes or takes away meanwhile."""
         if not isinstance(text, str):
             raise TypeError(f"a label is a str, not {type(text).__name__}")
         if not text or not text.isprintable():
             raise ValueError(f"a label is some printable text of one line, not {text!r}")
-        self.by_root[root] = text, place
+        self.by_root[root] = Label(text, place, [it for it in list(self.under_way) if root in it.read()])
 
-    def fork(self, root: int, place: int = 0) -> None:
+    def fork(self, root: int, place: int) -> None:
         """Says that a fork at the place has made a task with the number."""
-        _, labelled = self.by_root.get(root, ("", place + 1))
-        if labelled <= place:
-            self.by_root.pop(root, None)
+        label = self.by_root.get(root)
+        if label is not None and label.place <= place:
+            label.text = ""
+
+    def end(self, call: UnderWay) -> None:
+        """Says that a call under way is over. What goes is the label that was found: by now there may be another one in its place."""
+        if self.by_root:
+            for label in filter(None, map(self.by_root.get, call.read())):
+                if call not in label.behind:
+                    label.text = ""
+        self.under_way.discard(call)
 
     def drop(self, root: int) -> None:
         """Takes a label away, if there is one."""
@@ -37,12 +75,13 @@ class Labels:
 
     def of(self, roots: Iterable[int]) -> dict[int, str]:
         """The labels of these tasks."""
-        return {root: self.by_root[root][0] for root in roots if root in self.by_root}
+        texts = {root: label.text for root, label in list(self.by_root.items()) if label.text}
+        return {root: texts[root] for root in roots if root in texts}
 
     def copy(self) -> "Labels":
         """The same labels for another table, on which no call was made."""
         copied = Labels()
-        copied.by_root = {root: (text, 0) for root, (text, _) in self.by_root.items()}
+        copied.by_root = {root: Label(label.text) for root, label in list(self.by_root.items()) if label.text}
         return copied
 
 
@@ -52,9 +91,13 @@ class Labelled(Listed):
     # The labels of the table.
     _labels: Labels
 
-    @abstractmethod
     def _place(self) -> int:
-        """How many calls were made on the table."""
+        """How many calls were made on the table, where forks are told by that."""
+        return 0
+
+    def _alone(self) -> AbstractContextManager[object]:
+        """That no other thread makes a call on the table, where they may."""
+        return nullcontext()
 
     @abstractmethod
     def _look(self, task: int) -> Stat:
@@ -65,12 +108,13 @@ class Labelled(Listed):
 
         It is no call: the table, its text and its history know nothing of it. It goes with the task.
         """
-        place = self._place()
-        (root, *_) = self._look(task).numbers
-        if text is None:
-            self._labels.drop(root)
-        else:
-            self._labels.put(root, text, place)
+        with self._alone():
+            place = self._place()
+            (root, *_) = self._look(task).numbers
+            if text is None:
+                self._labels.drop(root)
+            else:
+                self._labels.put(root, text, place)
 
     def list(self) -> Listing:
         """The table as it stands now, with its labels. It costs a copy of the table."""

@@ -3,6 +3,7 @@
 import ctypes
 from abc import abstractmethod
 from collections.abc import Callable, Iterator, Sequence
+from functools import partial
 from itertools import groupby
 from typing import TypeVar
 
@@ -11,14 +12,25 @@ from pidtab.batch import read_call
 from pidtab.bounds import check_range
 from pidtab.calls import Call
 from pidtab.effects import Effect, add_effects
-from pidtab.labels import Labelled
+from pidtab.labels import Labelled, UnderWay
 from pidtab.native import GREATEST_PID, ROOT_INIT, Ask, AskableCalls, ToldCalls, Would, answer_of, fault_of, make_call, read_written
-from pidtab.raw import DIFFERS, DONE, FORKED, Answer, PidtabReply
+from pidtab.raw import DIFFERS, DONE, FORK, FORKED, Answer, PidtabReply
 
 # How many calls are made in one go, and how many entries are read, while others wait.
 BLOCK = 1024
 
 T = TypeVar("T")
+
+
+def tasks_of(replies: Sequence[PidtabReply]) -> list[int]:
+    """The root numbers of the new tasks that replies tell. One that is not written yet is all zeroes, and 0 is no task's."""
+    return [it.second for it in replies if it.kind == FORKED]
+
+
+def task_of(answer: ctypes.Array[ctypes.c_char], size: ctypes.c_size_t) -> list[int]:
+    """The same of the answer to a line."""
+    words = answer[: size.value].split(b" ")
+    return [int(words[3])] if words[0] == b"child" else []
 
 
 class NumberCalls(Labelled, AskableCalls):
@@ -42,10 +54,6 @@ class NumberCalls(Labelled, AskableCalls):
     @abstractmethod
     def _made_calls(self, *given: object) -> int:
         """The status of the function that makes many calls of the worker in one go."""
-
-    @abstractmethod
-    def _forked(self, root: int, since: int = 0) -> None:
-        """Sees to it that a new task has no label of another: so many calls of the worker came after the fork."""
 
     @property
     def ask(self) -> Ask:
@@ -71,30 +79,36 @@ class NumberCalls(Labelled, AskableCalls):
         told = Forked(*child)
         caller = check_range("caller", caller, 0, GREATEST_PID)
         number, root = check_range("child", told.child, 0, GREATEST_PID), check_range("root", told.root, 0, GREATEST_PID)
-        status = self._made("fork_at", caller, bool(new), number, root, PidtabReply())
+        reply = PidtabReply()
+        # Another reply is that to no call.
+        with UnderWay(self._labels, lambda: tasks_of([reply] if (reply.first, reply.second) == (number, root) else [])):
+            status = self._made("fork_at", caller, bool(new), number, root, reply)
         if status == DIFFERS:
             return False
         if status != DONE:
             raise fault_of(status, f"fork {caller}")
-        if self._labels.by_root:
-            self._forked(root)
         return True
 
     def _make(self, call: Call, form: Form[T]) -> T:
         if self._left:
             self._check_owner()
-        told = make_call(call, form, self._call)
-        if self._labels.by_root and isinstance(told, Forked):
-            self._forked(told.root)
-        return told
+        return make_call(call, form, self._call if call.operation != FORK else partial(self._fork, self._call))
+
+    def _fork(self, make: Callable[[bytes, PidtabReply], int], call: bytes, reply: PidtabReply) -> int:
+        """The status of a fork."""
+        # It has the root number of an earlier one.
+        reply.second = 0
+        with UnderWay(self._labels, partial(tasks_of, [reply])):
+            return make(call, reply)
 
     def _make_told(self, call: Call, form: Form[T], effects: list[Effect]) -> T:
         """Makes a call, and adds what it did."""
         self._check_owner()
-        told = make_call(call, form, lambda packed, reply: add_effects(effects, lambda *room: self._made("call_told", packed, reply, told=room)))
-        if self._labels.by_root and isinstance(told, Forked):
-            self._forked(told.root)
-        return told
+
+        def make(packed: bytes, reply: PidtabReply) -> int:
+            return add_effects(effects, lambda *room: self._made("call_told", packed, reply, told=room))
+
+        return make_call(call, form, make if call.operation != FORK else partial(self._fork, make))
 
     def _answers(self, lines: Sequence[bytes]) -> tuple[str, ...]:
         self._check_owner()
@@ -112,13 +126,11 @@ class NumberCalls(Labelled, AskableCalls):
     def _answer(self, line: bytes) -> str:
         """The answer to a line."""
         room, size = Answer(), ctypes.c_size_t()
-        status = self._line(line, len(line), room, len(room), size)
+        with UnderWay(self._labels, partial(task_of, room, size)):
+            status = self._line(line, len(line), room, len(room), size)
         if status != DONE:
             return answer_of(status)
-        answer = ctypes.string_at(room, size.value).decode("ascii")
-        if answer.startswith("child ") and self._labels.by_root:
-            self._forked(int(answer.split(" ")[3]))
-        return answer
+        return ctypes.string_at(room, size.value).decode("ascii")
 
     def _make_all(self, calls: Sequence[bytes]) -> Iterator[str]:
         """The answers to calls, as many in one go as may be. One that cannot be made ends that, and the next begins after it."""
@@ -126,20 +138,13 @@ class NumberCalls(Labelled, AskableCalls):
         while begin < len(calls):
             block = calls[begin : begin + BLOCK]
             replies, made = (PidtabReply * len(block))(), ctypes.c_size_t()
-            status = self._made_calls(b"".join(block), len(block), replies, len(block), made)
-            yield from self._replied(replies[: made.value])
+            with UnderWay(self._labels, partial(tasks_of, replies)):
+                status = self._made_calls(b"".join(block), len(block), replies, len(block), made)
+            yield from [ANSWERS[it.kind](it) for it in replies[: made.value]]
             begin += made.value
             if status != DONE:
                 yield answer_of(status)
                 begin += 1
-
-    def _replied(self, replies: Sequence[PidtabReply]) -> list[str]:
-        """The answers that the replies to calls in one go are."""
-        if self._labels.by_root:
-            for place, reply in enumerate(replies, 1):
-                if reply.kind == FORKED:
-                    self._forked(reply.second, len(replies) - place)
-        return [ANSWERS[it.kind](it) for it in replies]
 
     def _list_text(self) -> str:
         self._check_owner()

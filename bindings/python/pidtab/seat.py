@@ -2,6 +2,7 @@
 
 import ctypes
 from collections.abc import Callable
+from contextlib import AbstractContextManager
 from typing import TYPE_CHECKING
 
 from pidtab.answers import Reaped
@@ -81,11 +82,8 @@ class Seat(NumberCalls):
         if self._closed:
             raise TableClosed("the seat was closed")
 
-    def _place(self) -> int:
-        return self.table._place()
-
-    def _forked(self, root: int, since: int = 0) -> None:
-        self._labels.fork(root, self._ordinal.value - since)
+    def _alone(self) -> AbstractContextManager[object]:
+        return self.table._alone()
 
     def _question(self, name: str) -> Callable[..., int]:
         return self.table._question(name)

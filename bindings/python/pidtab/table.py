@@ -6,8 +6,10 @@ import threading
 import warnings
 import weakref
 from collections.abc import Callable, Sequence
+from contextlib import AbstractContextManager, nullcontext
 from functools import partial
 from itertools import islice
+from threading import get_ident
 
 from pidtab.bounds import ALL, DEFAULT_PID_MAX, GREATEST_NUMBER, check_range
 from pidtab.faults import NotKept, OtherSettings, SeatsTaken
@@ -270,12 +272,9 @@ class Table(Saving, Waiting, NumberCalls):
     def _settings(self) -> str:
         return str(self._settled)
 
-    def _place(self) -> int:
-        # Without a history no place is told, and each fork takes a label away.
-        return self.counts().recorded if self.keep else 0
-
-    def _forked(self, root: int, since: int = 0) -> None:
-        self._labels.drop(root)
+    def _alone(self) -> AbstractContextManager[object]:
+        hold = self._check_open()
+        return self.lock() if self.threads and get_ident() not in hold.inside else nullcontext()
 
     def _made(self, name: str, *given: object, told: tuple[object, ...] = ()) -> int:
         return self._bounded(f"pidtab_{name}", *given, *told)

@@ -1,13 +1,19 @@
 """Labels of tasks, which are outside of the table, and keys beside numbers."""
 
 import json
+import threading
 import unittest
+from collections.abc import Callable
+from itertools import product
+from typing import Any
 
-from pidtab import Refusal, Table, TableClosed, read_list
+from pidtab import ALL, Forked, Refusal, Seat, Table, TableClosed, read_list
 from pidtab.accounts import Accounts
 from pidtab.calls import Calls
+from pidtab.labels import Labels
 from pidtab.number_calls import NumberCalls
 from pidtab.tree import draw_list
+from tests.test_history import run_all
 from tests.ways import for_threads, need_library
 
 TREE = """\
@@ -44,7 +50,7 @@ def labels_of(table: Table | Table | Calls) -> dict[int, str | None]:
     return {task.root: task.label for task in table.list().tasks if task.label}
 
 
-class Labels(unittest.TestCase):
+class OfOneTable(unittest.TestCase):
     """Of a table of this process."""
 
     def setUp(self) -> None:
@@ -137,14 +143,112 @@ class SharedLabels(unittest.TestCase):
         self.assertEqual(forked, f"child {LAST} root {LAST}")
         self.assertEqual(labels_of(self.table), {1: "init"})
 
-    def test_who_is_labelled_behind_a_fork_keeps_it(self) -> None:
-        # As a thread may label a task before the one that made it goes on.
-        self.seats[0].fork(1)
-        self.table.label(2, "web")
-        self.table._labels.fork(2, 0)
-        self.assertEqual(labels_of(self.table), {2: "web"})
-        self.table._labels.fork(2, 1)
-        self.assertEqual(labels_of(self.table), {})
+    def test_a_fork_by_its_place(self) -> None:
+        # As a host has it, which makes the calls of all.
+        labels = Labels()
+        labels.put(2, "web", 1)
+        labels.fork(2, 0)
+        self.assertEqual(labels.of([1, 2]), {2: "web"})
+        labels.fork(2, 1)
+        self.assertEqual((labels.of([1, 2]), labels.copy().of([2])), ({}, {}))
+
+
+# The functions of the library that may fork.
+MAKERS = {f"pidtab_{it}" for it in ("call", "call_by", "line", "line_by", "fork_at", "fork_at_by", "call_told", "call_told_by", "calls")}
+
+
+def do_nothing() -> None:
+    """What another thread does that does nothing."""
+
+
+def beside(table: Table, before: Callable[[], object] = do_nothing, after: Callable[[], object] = do_nothing) -> None:
+    """Another thread comes before the table's next fork is made, and after it, before the thread that makes it goes on."""
+    status = table._status
+
+    def make(name: str, *given: object) -> int:
+        if name not in MAKERS:
+            return status(name, *given)
+        table._status = status  # type: ignore[method-assign]
+        run_all([threading.Thread(target=before)])
+        made = status(name, *given)
+        run_all([threading.Thread(target=after)])
+        return made
+
+    table._status = make  # type: ignore[method-assign]
+    if not table.threads:
+        table._call, table._line = (lambda *given: table._status("pidtab_call", *given)), (lambda *given: table._status("pidtab_line", *given))
+
+
+# A fork of process 1, by each way to make one: the child gets that number.
+FORKS: tuple[Callable[[Table | Seat, int], object], ...] = (
+    lambda at, number: at.fork(1),
+    lambda at, number: at.told.fork(1),
+    lambda at, number: at.line("fork 1"),
+    lambda at, number: at.answers(["fork 1", "getpid 1"]),
+    lambda at, number: at.fork_at(1, Forked(number, number)),
+)
+SETTINGS: tuple[dict[str, Any], ...] = ({}, {"keep": ALL}, {"threads": True}, {"keep": ALL, "threads": True})
+
+
+class Meanwhile(unittest.TestCase):
+    """Another thread labels a task, by whose number one is in a fork."""
+
+    def check(self, label: str | None, number: int, meanwhile: Callable[[Table, Table | Seat], None]) -> None:
+        """The label of the number after a fork that gets it, on each kind of table, at it and at its seat."""
+        need_library()
+        for given, has_seat, (way, fork) in product(SETTINGS, (False, True), enumerate(FORKS)):
+            with self.subTest(**given, has_seat=has_seat, way=way), Table(301, **given) as table:
+                at = table.seat() if has_seat else table
+                if number == LAST:
+                    go_up(at)
+                meanwhile(table, at)
+                fork(at, number)
+                self.assertEqual(labels_of(table), {number: label} if label else {})
+
+    def end_last(self, table: Table, label: str) -> None:
+        """The task with the last number gets a label, and is gone."""
+        table.label(LAST, label)
+        table.exit(LAST)
+        table.wait(1)
+
+    def test_the_new_task_keeps_it(self) -> None:
+        self.check("web", 2, lambda table, at: beside(table, after=lambda: table.label(2, "web")))
+
+    def test_after_it_comes_a_call_of_the_same_seat(self) -> None:
+        def go_on(table: Table, at: Table | Seat) -> None:
+            table.label(2, "web")
+            at.exec(1)
+
+        self.check("web", 2, lambda table, at: beside(table, after=lambda: go_on(table, at)))
+
+    def test_within_the_lock(self) -> None:
+        need_library()
+
+        def label(table: Table) -> None:
+            with table.lock():
+                table.label(2, "web")
+
+        with Table(threads=True) as table:
+            beside(table, after=lambda: label(table))
+            table.fork(1)
+            self.assertEqual(labels_of(table), {2: "web"})
+
+    def test_that_of_the_task_before_goes(self) -> None:
+        self.check(None, LAST, lambda table, at: beside(table, lambda: self.end_last(table, "before")))
+
+    def test_the_one_after_that_stays(self) -> None:
+        self.check("web", LAST, lambda table, at: beside(table, lambda: self.end_last(table, "before"), lambda: table.label(LAST, "web")))
+
+    def test_it_goes_by_a_second_fork_amid_the_first(self) -> None:
+        def fork_again(table: Table) -> None:
+            self.end_last(table, "web")
+            table.fork(1)
+
+        def begin(table: Table, at: Table | Seat) -> None:
+            self.end_last(table, "before")
+            beside(table, after=lambda: fork_again(table))
+
+        self.check(None, LAST, begin)
 
 
 class Keys(unittest.TestCase):
