@@ -1,24 +1,11 @@
 -- The walks through the functions of a handle of any kind. Assumes `Logic`.
-use Rattle.foreign_handles.proofs.Words.{ !, Body, Callee, Clauses, Closed, Ended, Env, Fml, Fn, GName, Goes-blank, Goes-spent_ref, Handle, IsSome, Kind, List}
-use Rattle.foreign_handles.proofs.Words.{Logic, Loose, MachineTables, Meets, MutRef, None, Part, Ptr, RattleType, RawPtr, Running, SProp, Some, Stays, Ty, Ura}
-use Rattle.foreign_handles.proofs.Words.{Val, WpFn, [], addr, addr_of, agg, aggregate, alloc_all, allocator, alone, and_then, and_tt, assign, at_ret, await}
-use Rattle.foreign_handles.proofs.Words.{bare, beside, beside_fits, block, block_ptr, blocks, by, cell_at, closing, copy, deref, done, drop, emp, ends_at, ent}
-use Rattle.foreign_handles.proofs.Words.{enter, env, erased, exec, fact, fact_i, feq_l, field, first, fjoin, fld, flft, follows, fpack, free_all, fsep, fsplit}
-use Rattle.foreign_handles.proofs.Words.{fsplit3, ftrue, full_share, get, get_in, ghosts, group, handle_closes, handle_of_none, handle_opens, handle_tells}
-use Rattle.foreign_handles.proofs.Words.{has_ty, heard, held, id⊢, join, keep, later, lends_Part, load, local, lone, look_at, look_in, loose_closes}
-use Rattle.foreign_handles.proofs.Words.{loose_opens, mem, move, mut, mut_Tells, mut_ref_to, mut_vals, named, no, no_more, nothing, of_opd, opens, owns}
-use Rattle.foreign_handles.proofs.Words.{part_at, pass_all, pick, place, plain, pointee, proved, proved_at, ptr_val, qed, raw, rawptr_Lawful, refl, return}
-use Rattle.foreign_handles.proofs.Words.{returns, rewrite, rv_opd, sem, sep, seq, sets, sets_last, some, split, split3, stay_dropped, stop, sub, subst}
-use Rattle.foreign_handles.proofs.Words.{suffices, sym, tables, through, ty_ptr, ty_ref, types_at, use0, use1, value_local, vcons, vnil, vptr, vstruct, walk_of}
-use Rattle.foreign_handles.proofs.Words.{whole, with_value, yes, ‵, ℕ, ◌$◌, ◌++◌, ◌∵◌, ◌∷◌, ◌≡◌, ◌⊛◌}
-pub use Rattle.foreign_handles.proofs.Words.{of_replica, of_table}
+pub mod Words
+use Words.*
+pub use Words.{of_replica, of_table}
 use mathlib.Core.List.{map}
 use Prim.Native.Nat.{suc}
 use denote.Memory.{part_of}
-use prog.Model.{Model}
-use Rattle.std.specs.Borrow.{Lends, MutBor}
 use Rattle.std.proofs.alloc.Global.TheLaws as heap_laws
-use Rattle.std.proofs.raw_atomic.Walks.{leaves}
 use Rattle.std.specs.contracts.alloc.Global as heap
 
 -- a function by how many lifetimes and parameters it has, the types of its locals, and its code
@@ -72,7 +59,7 @@ module _ (K : Kind) where
     unfolding part_of
     back here w =
         qed 𝓛 (‵ (part_at K.R full_share w b' o') ∷ ‵ Rest ∷ []) ∵ move ! (1 ∷ []) $ fsplit ! $ move ! (2 ∷ 0 ∷ []) $ fjoin ! $
-        handle_closes K ! b' o' w (K.parts d).2 $
+        handle_closes K ! (block_ptr b' o') (Some w) (K.parts d).2 $
         rewrite ! 0 (λ (p : Ptr). ‵ ((Handle K).own_val (K.make p (Some w) (K.parts d).2) (alone b' o' ∷ []))) (sym here) refl $
         move ! (1 ∷ 0 ∷ []) $ fjoin ! $
         fpack ! (List Val) (λ us. fsep (cell_at full_share (Handle K).mir us b o) ((Handle K).own_val (with_value K d w) us)) (alone b' o' ∷ []) $ done !
@@ -114,7 +101,7 @@ module _ (K : Kind) where
         suffices ! (Run us) (subst (λ (ws : List Val). ent 𝓤 (Run us) (Run ws)) (sym (λ i. is_h i ++ (is_p i ++ []))) (id⊢ 𝓤 (Run us))) $
         enter ! 𝓣.C 𝓣.Λ fn us Post $ alloc_all ! (λ l. pass_all ! refl (good, fits) $
         sets ! (agg ! (and_then ! (get ! refl) (no_more !))) refl (and_tt (has_ty ty_ptr v) fits.0.0, (fits.0.1, tt)) $
-        handle_of_none K ! p a $
+        nothing ! $ handle_closes K ! p None a $
         use0 𝓛 (raw (fact 𝓤 says)) (fact_i 𝓤 says (emp 𝓤) (λ i. (K.made p None a i).1)) $ nothing ! $ nothing ! $ fjoin ! $ nothing ! $ fjoin ! $ nothing ! $
         returns ! (look_at ! 0 refl) $ free_all ! refl $ keep ! (0 ∷ 1 ∷ 3 ∷ 2 ∷ []) $ by ! (leaves 𝓛 empty_ended hs c z (vstruct (vcons v vnil)) r _ (tt, (tt, tt)))))))
 
@@ -131,7 +118,7 @@ module _ (K : Kind) where
         enter ! 𝓣.C 𝓣.Λ fn (w ∷ []) Post $ alloc_all ! (λ l. pass_all ! refl (fits, tt) $
         sets ! (of_opd ! (get_in ! (fld ! refl (stop !)) (sub ! 0 refl (whole !)))) refl (tt, tt) $ sets ! (of_opd ! (get ! refl)) refl (tt, tt) $
         sets ! (agg ! (and_then ! (get ! refl) (no_more !))) refl (tt, (tt, tt)) $
-        handle_closes K ! b o v.value v.alloc $
+        handle_closes K ! (block_ptr b o) (Some v.value) v.alloc $
         use0 𝓛 (raw (fact 𝓤 says)) (fact_i 𝓤 says (emp 𝓤) (λ i. (K.made (block_ptr b o) (Some v.value) v.alloc i).1)) $ nothing ! $ nothing ! $ fjoin ! $ nothing ! $
         returns ! (look_at ! 0 refl) $ free_all ! refl $ keep ! (0 ∷ 1 ∷ 3 ∷ 2 ∷ []) $ by ! (leaves 𝓛 of_ended hs c z (alone b o) r _ (tt, tt)))))
 

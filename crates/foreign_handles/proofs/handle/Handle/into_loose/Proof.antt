@@ -1,7 +1,6 @@
 -- The walk of `into_loose`, for a table.
 use Rattle.foreign_handles.proofs.Walks as walks
-use Rattle.foreign_handles.proofs.handle.Handle.into_loose.Statement.{statement}
-use Rattle.foreign_handles.proofs.handle.Handle.into_loose.Code as code
+use Rattle.foreign_handles.proofs.handle.Handle.into_loose.{Code.unfolded, Statement.statement}
 
 pub into_loose_spec : {M : Type 1} → statement M
-into_loose_spec 𝓤 𝓛 𝓜 𝓡 wired = walks.into_loose walks.of_table 𝓛 𝓜 𝓡 _ (code.unfolded 𝓤 𝓛.H 𝓜 𝓡 wired)
+into_loose_spec 𝓤 𝓛 𝓜 𝓡 wired = walks.into_loose walks.of_table 𝓛 𝓜 𝓡 _ (unfolded 𝓤 𝓛.H 𝓜 𝓡 wired)

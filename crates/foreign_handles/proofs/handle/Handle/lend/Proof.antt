@@ -1,7 +1,6 @@
 -- The walk of `lend`, for a table.
 use Rattle.foreign_handles.proofs.Walks as walks
-use Rattle.foreign_handles.proofs.handle.Handle.lend.Statement.{statement}
-use Rattle.foreign_handles.proofs.handle.Handle.lend.Code as code
+use Rattle.foreign_handles.proofs.handle.Handle.lend.{Code.unfolded, Statement.statement}
 
 pub lend_spec : {M : Type 1} → statement M
-lend_spec 𝓤 𝓛 𝓜 𝓡 wired = walks.lend walks.of_table 𝓛 𝓜 𝓡 _ (code.unfolded 𝓤 𝓛.H 𝓜 𝓡 wired)
+lend_spec 𝓤 𝓛 𝓜 𝓡 wired = walks.lend walks.of_table 𝓛 𝓜 𝓡 _ (unfolded 𝓤 𝓛.H 𝓜 𝓡 wired)

@@ -1,18 +1,15 @@
 -- `into_box` makes the box again.
-use Rattle.foreign_handles.proofs.Words.{ !, Goes-blank, Lasts, List, Loose, RattleType, SProp, Stays, Val, WpFn, [], a_type, alloc_all, and_then, at_ret}
-use Rattle.foreign_handles.proofs.Words.{await, beside, beside_fits, block_ptr, blocks, bounded, by, calls_at_last, dcons, dnil, drop, ent, enter, env, exec}
-use Rattle.foreign_handles.proofs.Words.{fact, feq_i, first, fjoin, fld, flft, framed, free_all, fsplit, ftrue, get, get_in, id⊢, inst_fn, join, keep}
-use Rattle.foreign_handles.proofs.Words.{lands_last, lasts, later, look_at, loose_opens, move, no, no_more, nothing, of_opd, owns, param, param_laws, pass_all}
-use Rattle.foreign_handles.proofs.Words.{peeks, pick, plain, proved_at, qed, raw, refl, returns, sets, some, split, split3, stay_dropped, stop, sub, subst}
-use Rattle.foreign_handles.proofs.Words.{suffices, sym, tables, triple_of, types_at, use1, vptr, walk_of, whole, ‵, ◌$◌, ◌++◌, ◌∵◌, ◌∷◌, ◌≡◌, ◌⊛◌}
+use Rattle.foreign_handles.proofs.Walks.Words.{ !, Goes-blank, Is, Lasts, List, Loose, RattleType, SProp, Stays, Val, WpFn, [], a_type, after, alloc_all}
+use Rattle.foreign_handles.proofs.Walks.Words.{and_then, at_ret, await, beside, beside_fits, block_ptr, blocks, bounded, by, calls_at_last, dcons, dnil, drop}
+use Rattle.foreign_handles.proofs.Walks.Words.{ent, enter, env, exec, fact, feq_i, first, fjoin, fld, flft, framed, free_all, fsplit, ftrue, get, get_in, id⊢}
+use Rattle.foreign_handles.proofs.Walks.Words.{inst_fn, join, keep, lands_last, lasts, later, leaves, look_at, loose_opens, move, no, no_more, nothing}
+use Rattle.foreign_handles.proofs.Walks.Words.{of_opd, owns, param, param_laws, pass_all, peeks, pick, plain, proved_at, qed, raw, refl, returns, sets, shows}
+use Rattle.foreign_handles.proofs.Walks.Words.{some, split, split3, stay_dropped, stop, sub, subst, suffices, sym, tables, triple_of, types_at, use1, vptr}
+use Rattle.foreign_handles.proofs.Walks.Words.{walk_of, whole, ‵, ◌$◌, ◌++◌, ◌∵◌, ◌∷◌, ◌≡◌, ◌⊛◌}
 use contract.BorrowLft.{◌⊑◌}
-use denote.Laws.{Is, shows}
-use Rattle.std.proofs.VecSteps.Shapes.{after}
 use Rattle.std.specs.contracts.boxed.Box as box
-use Rattle.std.proofs.boxed.Box.TheLaws as box_laws
-use Rattle.std.proofs.raw_atomic.Walks.{leaves}
+use Rattle.std.proofs.boxed.Box.{TheLaws.the_row_laws, from_raw.Met.met}
 use Rattle.std.specs.contracts.boxed.Box.from_raw as callee
-use Rattle.std.proofs.boxed.Box.from_raw.Met.{met}
 use Rattle.foreign_handles.specs.contracts.loose.Loose.into_box as f
 use Rattle.foreign_handles.proofs.loose.Loose.into_box.Statement.{statement}
 use Rattle.foreign_handles.proofs.loose.Loose.into_box.Code as code
@@ -20,7 +17,7 @@ use Rattle.foreign_handles.proofs.loose.Loose.into_box.Code as code
 pub into_box_spec : {M : Type 1} → statement M
 into_box_spec 𝓤 𝓛 𝓜 𝓡 wired T A L LA g d dx dd allocates glue glued =
     let H = 𝓛.H in let 𝓣 = tables 𝓤 H 𝓜 𝓡 𝓡.env in let R : RattleType = param 0 T in let Z : RattleType = param 1 A in let LZ = param_laws 1 A LA in
-    let B : RattleType = box.the_row R Z g in let LB = box_laws.the_row_laws R Z g (param_laws 0 T L) LZ in
+    let B : RattleType = box.the_row R Z g in let LB = the_row_laws R Z g (param_laws 0 T L) LZ in
     let inst = bounded (a_type ∷ a_type ∷ []) (T, (A, tt)) (dcons d (dcons dx (dcons dd dnil))) in let fn = inst_fn inst code.function in
     let En = f.ended T A g d dx dd in let c = f.clauses T A g d dx dd 𝓛 𝓜.mem 𝓡.returns in
     let hs : Stays En.signature.params En.kept = (stay_dropped (plain (λ _. Loose R Z LZ g)) no, tt) in

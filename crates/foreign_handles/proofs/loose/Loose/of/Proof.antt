@@ -1,17 +1,15 @@
 -- `of` takes the box apart, and keeps its address and its allocator.
-use Rattle.foreign_handles.proofs.Words.{ !, Goes-blank, List, Ptr, RattleType, RawPtr, SProp, Stays, Val, WpFn, [], a_type, agg, alloc_all, allocator}
-use Rattle.foreign_handles.proofs.Words.{and_then, ap, await, bare, beside, beside_fits, block_ptr, bounded, box_owns, by, calls_at, dcons, dnil, drop, emp}
-use Rattle.foreign_handles.proofs.Words.{ent, enter, fact, fact_i, feq_l, fjoin, fld, flft, fpick, framed, free_all, fsep, fsplit, fst∗, ftrue, get, get_in}
-use Rattle.foreign_handles.proofs.Words.{handle_tells, heard, id⊢, in_a_block, inst_fn, join, keep, lands_as, later, layout, look_at, loose_closes, move, never}
-use Rattle.foreign_handles.proofs.Words.{no, no_more, nothing, null_ptr, of_list, of_opd, one, only, owns, param, param_laws, pass_all, pick, plain, proved_at}
-use Rattle.foreign_handles.proofs.Words.{ptr_val, qed, raw, refl, returns, rewrite, sem, sets, some, split, split3, stay_dropped, stop, sub, subst, suffices}
-use Rattle.foreign_handles.proofs.Words.{sym, tables, triple_of, types_at, use0, use1, vstruct, walk_of, whole, ‵, ◌$◌, ◌++◌, ◌∙◌, ◌∵◌, ◌∷◌, ◌≡◌, ◌⊛◌}
-use denote.Struct.Tuple.{Tuple}
+use Rattle.foreign_handles.proofs.Walks.Words.{ !, Goes-blank, List, Ptr, RattleType, RawPtr, SProp, Stays, Tuple, Val, WpFn, [], a_type, agg, alloc_all}
+use Rattle.foreign_handles.proofs.Walks.Words.{allocator, and_then, ap, await, bare, beside, beside_fits, block_ptr, bounded, box_owns, by, calls_at, dcons}
+use Rattle.foreign_handles.proofs.Walks.Words.{dnil, drop, emp, ent, enter, fact, fact_i, feq_l, fjoin, fld, flft, fpick, framed, free_all, fsep, fsplit}
+use Rattle.foreign_handles.proofs.Walks.Words.{fst∗, ftrue, get, get_in, handle_tells, heard, id⊢, in_a_block, inst_fn, join, keep, lands_as, later, layout}
+use Rattle.foreign_handles.proofs.Walks.Words.{leaves, look_at, loose_closes, move, never, no, no_more, nothing, null_ptr, of_list, of_opd, one, only, owns}
+use Rattle.foreign_handles.proofs.Walks.Words.{param, param_laws, pass_all, pick, plain, proved_at, ptr_val, qed, raw, refl, returns, rewrite, sem, sets}
+use Rattle.foreign_handles.proofs.Walks.Words.{some, split, split3, stay_dropped, stop, sub, subst, suffices, sym, tables, triple_of, types_at, use0, use1}
+use Rattle.foreign_handles.proofs.Walks.Words.{vstruct, walk_of, whole, ‵, ◌$◌, ◌++◌, ◌∙◌, ◌∵◌, ◌∷◌, ◌≡◌, ◌⊛◌}
 use Rattle.std.specs.contracts.boxed.Box as box
-use Rattle.std.proofs.boxed.Box.TheLaws as box_laws
-use Rattle.std.proofs.raw_atomic.Walks.{leaves}
+use Rattle.std.proofs.boxed.Box.{TheLaws.the_row_laws, into_raw_with_allocator.Met.met}
 use Rattle.std.specs.contracts.boxed.Box.into_raw_with_allocator as callee
-use Rattle.std.proofs.boxed.Box.into_raw_with_allocator.Met.{met}
 use Rattle.foreign_handles.specs.contracts.loose.Loose.of as f
 use Rattle.foreign_handles.proofs.loose.Loose.of.Statement.{statement}
 use Rattle.foreign_handles.proofs.loose.Loose.of.Code as code
@@ -25,7 +23,7 @@ of_spec 𝓤 𝓛 𝓜 𝓡 wired T A L LA g d dx dd allocates glue glued =
     proved_at 𝓛 En hs c 𝓜 𝓡 (Goes-blank 𝓛 2 (plain (λ _. B)) no (λ κs x f. tt), tt) (f.Key.name inst) fn (code.unfolded 𝓤 H 𝓜 𝓡 wired (T, (A, tt)) d dx dd) (λ z are.
     let κs = z.0.0 in let qs = z.0.1 in let v = z.0.3.0 in let a = v.alloc in let x = v.value in let Post : Val → SProp 𝓤 = (walk_of 𝓛 En hs c).post z in let Run : List Val → SProp 𝓤 = λ ws. WpFn 𝓤 H 𝓣.C 𝓣.Λ fn ws Post in
     let tokens = ‵ (flft κs.0 qs.0) ⊛ ‵ (flft κs.1.0 qs.1.0) ⊛ ‵ ftrue in let asked = raw ((c κs z.0.3).requires z.1) in
-    let LB = box_laws.the_row_laws R Z g (param_laws 0 T L) LZ in let w = one (layout B) z.0.4.0 ((LB.lawful 𝓛).typed v z.0.4.0 are.0) in
+    let LB = the_row_laws R Z g (param_laws 0 T L) LZ in let w = one (layout B) z.0.4.0 ((LB.lawful 𝓛).typed v z.0.4.0 are.0) in
     let k = triple_of 𝓛 (callee.signature T A g d dd dx) (callee.spec T A g d dd dx 𝓛 𝓜.mem 𝓡.returns) in let y : k.Ghost = ((κs, qs, tt, (v, tt), (w.0 ∷ [], tt)), tt) in let Pair = Tuple (RawPtr ∷ Z ∷ []) in
     qed 𝓛 ((tokens ⊛ ‵ (owns (types_at En.signature.params κs) z.0.3 z.0.4)) ∷ asked ∷ []) ∵
     -- [the box; nothing; the tokens; what is asked]: all that the callee asks

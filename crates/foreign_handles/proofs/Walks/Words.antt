@@ -1,55 +1,36 @@
 -- The words of the toolchain for a walk, passed on from one place, and what a loose box and a handle are to the prover. Assumes `Logic`.
 pub use Rattle.pid_types.proofs.General.{held}
 pub use Rattle.std.proofs.Common.{List, [], ap, refl, subst, sym, ℕ, ◌++◌, ◌∙◌, ◌∷◌, ◌≡◌}
-pub use Rattle.std.proofs.Crossing.{frees}
-pub use Rattle.std.proofs.ResultValues.{and_tt}
-pub use Rattle.std.proofs.alloc.Calls.{Al, Goes-blank, handle_tells}
-pub use Rattle.std.proofs.cell.Inside.{Good, one}
-pub use Rattle.std.proofs.raw_atomic.Walks.{proved, proved_at}
-pub use Rattle.std.specs.Box.Ownership.{box_owns}
-pub use Rattle.std.specs.Global.{Global}
+pub use Rattle.std.proofs.{Crossing.frees, ResultValues.and_tt, VecSteps.Shapes.after, alloc.Calls.Al, alloc.Calls.Goes-blank, alloc.Calls.handle_tells}
+pub use Rattle.std.proofs.{cell.Inside.Good, cell.Inside.one, raw_atomic.Walks.leaves, raw_atomic.Walks.proved, raw_atomic.Walks.proved_at}
 pub use Rattle.std.specs.Prelude.{IsSome, None, Option, Some}
-pub use Rattle.std.specs.contracts.impls.GlobalAllocator.TheImpl.{ghosts}
-pub use base.Fml.{Fml, GName, flft, fsep, ftrue}
-pub use base.Fraction.{full_share}
+pub use Rattle.std.specs.{Borrow.Lends, Borrow.MutBor, Box.Ownership.box_owns, Global.Global, contracts.impls.GlobalAllocator.TheImpl.ghosts}
 pub use base.Logic.{SProp, emp, ent, fst∗, id⊢, never, sep}
-pub use base.Shift.{Keyless}
-pub use contract.Monad.{fact, fact_i}
-pub use contract.Running.{MachineTables, Running, tables}
-pub use denote.Exit.{Exit, hidden, no, unchanged, under, yes}
-pub use denote.Follow.{Part, follows, lends_Part}
-pub use denote.Memory.{cell_at, lone, mem, part_at, pointee}
-pub use denote.Param.{bounded, layout, param}
-pub use denote.Param.Laws.{Laws, param_laws}
+pub use base.{Fml.Fml, Fml.GName, Fml.flft, Fml.fsep, Fml.ftrue, Fraction.full_share, Shift.Keyless}
+pub use contract.{Monad.fact, Monad.fact_i, Running.MachineTables, Running.Running, Running.tables}
 pub use denote.Param.Send.{IsSend, Quiet, owning_send, part_keyless, sendable, struct_send}
-pub use denote.RattleType.{RattleType, Valss, owns}
 pub use denote.RawPtr.{Ptr, RawPtr, block_ptr, in_a_block, lies_at, null_ptr, ptr_val, rawptr_Lawful}
-pub use denote.Ref.{MutRef, mut_Tells, mut_vals}
-pub use denote.Signature.{mut_ref_to, plain, types_at}
-pub use denote.Steps.{heard, nothing, only, opens, peeks}
-pub use denote.Struct.Owning.{Owning, fields, row, shape, to}
-pub use denote.Struct.Struct.{Struct, exits_of, within}
-pub use denote.Triple.Call.{calls_at, calls_at_last}
-pub use denote.Triple.Clauses.{Clauses, Ended, Lasts, closing, lasts}
-pub use denote.Triple.Spec.{Meets, triple_of}
-pub use denote.Triple.Table.{framed}
 pub use denote.Triple.Walked.{Goes-spent_ref, Stays, ends_at, stay_dropped, walk_of}
-pub use mir.MapTy.{inst_fn}
+pub use denote.{Exit.Exit, Exit.hidden, Exit.no, Exit.unchanged, Exit.under, Exit.yes, Follow.Part, Follow.follows, Follow.lends_Part, Laws.Is, Laws.shows}
+pub use denote.{Memory.cell_at, Memory.lone, Memory.mem, Memory.part_at, Memory.pointee, Param.Laws.Laws, Param.Laws.param_laws, Param.bounded, Param.layout}
+pub use denote.{Param.param, RattleType.RattleType, RattleType.Valss, RattleType.owns, Ref.MutRef, Ref.mut_Tells, Ref.mut_vals, Signature.mut_ref_to}
+pub use denote.{Signature.plain, Signature.types_at, Steps.heard, Steps.nothing, Steps.only, Steps.opens, Steps.peeks, Struct.Owning.Owning}
+pub use denote.{Struct.Owning.fields, Struct.Owning.row, Struct.Owning.shape, Struct.Owning.to, Struct.Struct.Struct, Struct.Struct.exits_of}
+pub use denote.{Struct.Struct.within, Struct.Tuple.Tuple, Triple.Call.calls_at, Triple.Call.calls_at_last, Triple.Clauses.Clauses, Triple.Clauses.Ended}
+pub use denote.{Triple.Clauses.Lasts, Triple.Clauses.closing, Triple.Clauses.lasts, Triple.Spec.Meets, Triple.Spec.triple_of, Triple.Table.framed}
 pub use mir.Raw.{raw as bare}
 pub use mir.Syntax.{Body, Callee, Fn, Ty, a_type, addr_of, aggregate, assign, block, copy, dcons, deref, dnil, erased, field, impl, local, mut, named, place}
 pub use mir.Syntax.{return, rv_opd, seq, tnil, ty_ptr, ty_ref, value_local}
-pub use mir.Val.{Val, WT, has_ty, of_list, vcons, vnil, vptr, vstruct}
-pub use prog.Wp.{Closed, Env, WpFn}
+pub use mir.{MapTy.inst_fn, Val.Val, Val.WT, Val.has_ty, Val.of_list, Val.vcons, Val.vnil, Val.vptr, Val.vstruct}
+pub use prog.{Model.Model, Wp.Closed, Wp.Env, Wp.WpFn}
 pub use seplogic.Ra.Ura.{Ura}
 pub use types.ByLocal.{alloc_all, env, free_all, get, get_in, lands_as, lands_last, look_at, pass_all, sets, sets_last, through}
-pub use types.Kit.{ !, Goal, Item, Seq, Step, at_ret, await, by, done, drop, feq_i, feq_l, fjoin, fpack, fpick, fsplit, fsplit3, group, join, keep, later, move}
-pub use types.Kit.{pick, qed, raw, rewrite, some, split, split3, step, suffices, use0, use1, ‵, ◌$◌, ◌∵◌, ◌⊛◌}
-pub use types.Logic.{Logic, sem}
-pub use types.Part.{agg, look_in, sub, whole}
+pub use types.Kit.{ !, Goal, Item, Seq, Step, at_ret, await, by, done, drop, feq_i, feq_l, fjoin, fpack, fpick, fsplit, fsplit3, group, join, keep, later}
+pub use types.Kit.{move, pick, qed, raw, rewrite, some, split, split3, step, suffices, use0, use1, ‵, ◌$◌, ◌∵◌, ◌⊛◌}
 pub use types.Run.{addr, and_then, blocks, enter, exec, first, fld, load, no_more, of_opd, returns, stop}
+pub use types.{Logic.Logic, Logic.sem, Part.agg, Part.look_in, Part.sub, Part.whole}
 use Rattle.foreign_handles.specs.Owned.{IfHeld}
 use Rattle.std.specs.declared.alloc.Allocator.{Ghosts}
-use denote.Exit.{leaves}
 use denote.Struct.Field.{RawPtr-field}
 use lib.Dec.{T}
 use mathlib.Core.Bool.{true, ◌&&◌}
@@ -132,20 +113,13 @@ module _ (K : Kind) where
   owned s vs = fsep ((Struct (shape the_type)).own_val (s.0, tt) vs) (IfHeld s.1 (box_owns (ghosts.dealloc_token s.2) K.R s.0))
 
   module _ {M : Type 1} {𝓤 : Ura M} {𝓛 : Logic 𝓤} {C : Type 0} {Γ : List (Item 𝓤)} {G : Goal 𝓤 𝓛.H} where
-    -- what is at an address is what a handle with that address owns
-    pub handle_closes : C → (b o : ℕ) (x : K.R.Denot) (a : Global)
-        → Step C 𝓛 (‵ (Handle.own_val (K.make (block_ptr b o) (Some x) a) (alone b o ∷ [])) ∷ Γ) G (‵ (box_owns (ghosts.dealloc_token a) K.R (block_ptr b o) x) ∷ Γ) G
-    handle_closes t b o x a = step (λ next.
-        nothing t $ feq_i t (List Val) (vptr b o ∷ []) (vptr b o ∷ []) refl $ fjoin t $ feq_i t (List Val) (alone b o ∷ []) (alone b o ∷ []) refl $ fjoin t $
-        fpack t (Valss (RawPtr ∷ [])) (within (shape the_type) (block_ptr b o, tt) (alone b o ∷ [])) (vptr b o ∷ [], tt) $ fjoin t $
-        rewrite t 0 (λ (s : Ptr × Option K.R.Denot × Global). ‵ (owned s (alone b o ∷ []))) (sym (K.made (block_ptr b o) (Some x) a)) refl $ next)
-
-    -- a handle that holds nothing owns nothing, whatever its address is
-    pub handle_of_none : C → (p : Ptr) (a : Global) → Step C 𝓛 (‵ (Handle.own_val (K.make p None a) (vstruct (vcons (ptr_val p) vnil) ∷ [])) ∷ Γ) G Γ G
-    handle_of_none t p a = step (λ next. let word : Val = vstruct (vcons (ptr_val p) vnil) in
-        nothing t $ nothing t $ feq_i t (List Val) (ptr_val p ∷ []) (ptr_val p ∷ []) refl $ fjoin t $ feq_i t (List Val) (word ∷ []) (word ∷ []) refl $ fjoin t $
+    -- what is at an address, if something is held there, is what a handle with that address owns
+    pub handle_closes : C → (p : Ptr) (m : Option K.R.Denot) (a : Global)
+        → Step C 𝓛 (‵ (Handle.own_val (K.make p m a) (vstruct (vcons (ptr_val p) vnil) ∷ [])) ∷ Γ) G (‵ (IfHeld m (box_owns (ghosts.dealloc_token a) K.R p)) ∷ Γ) G
+    handle_closes t p m a = step (λ next. let word : Val = vstruct (vcons (ptr_val p) vnil) in
+        nothing t $ feq_i t (List Val) (ptr_val p ∷ []) (ptr_val p ∷ []) refl $ fjoin t $ feq_i t (List Val) (word ∷ []) (word ∷ []) refl $ fjoin t $
         fpack t (Valss (RawPtr ∷ [])) (within (shape the_type) (p, tt) (word ∷ [])) (ptr_val p ∷ [], tt) $ fjoin t $
-        rewrite t 0 (λ (s : Ptr × Option K.R.Denot × Global). ‵ (owned s (word ∷ []))) (sym (K.made p None a)) refl $ next)
+        rewrite t 0 (λ (s : Ptr × Option K.R.Denot × Global). ‵ (owned s (word ∷ []))) (sym (K.made p m a)) refl $ next)
 
     -- what a handle that holds something owns is what is at its address
     pub handle_opens : C → (d : K.struct.D) (x : K.R.Denot) (vs : List Val) → (K.parts d).1 ≡ Some x
@@ -166,7 +140,7 @@ of_replica = record { struct = replica_handle.the_type; R = replica.the_row; par
 
 pub still_quiet : {D X : Type 0} (to : D → X) (e : Exit X) → Quiet e → Quiet (hidden (under to e))
 still_quiet to unchanged quiet = λ x w. tt
-still_quiet to (leaves L l S s r₀) quiet = λ d. quiet (to d)
+still_quiet to (Exit.leaves L l S s r₀) quiet = λ d. quiet (to d)
 
 pub at_address : (R : RattleType) → IsSend R → (p : Ptr) (x : R.Denot) → Keyless (lies_at R full_share p x)
 at_address R may (block_ptr b o) x = part_keyless R may full_share x b o
