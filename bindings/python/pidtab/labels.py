@@ -9,31 +9,19 @@ from pidtab.calls import Listed
 from pidtab.listing import Listing
 
 
+# What reads the root numbers of the tasks that a call under way has made by now. Each call has its own.
+Reads = Callable[[], Collection[int]]
+
+
 class Label:
     """The label of a task, whose text is empty once it is gone."""
 
     __slots__ = ("behind", "place", "text")
 
-    def __init__(self, text: str, place: int = 0, behind: Collection["UnderWay"] = ()) -> None:
+    def __init__(self, text: str, place: int = 0, behind: Collection[Reads] = ()) -> None:
         self.text = text
         # So many calls were made on the table before, and so did these, which have forked a task with its number: that one, or an earlier one.
         self.place, self.behind = place, behind
-
-
-class UnderWay:
-    """A call that may fork, from before it is made until its tasks have no labels of others. It reads the root numbers of those that it has made by now."""
-
-    __slots__ = ("labels", "read")
-
-    def __init__(self, labels: "Labels", read: Callable[[], Collection[int]]) -> None:
-        self.labels = labels
-        self.read = read
-
-    def __enter__(self) -> None:
-        self.labels.under_way.add(self)
-
-    def __exit__(self, *_: object) -> None:
-        self.labels.end(self)
 
 
 class Labels:
@@ -45,7 +33,8 @@ class Labels:
 
     def __init__(self) -> None:
         self.by_root: dict[int, Label] = {}
-        self.under_way: set[UnderWay] = set()
+        # Each call that may fork, from before it is made until its tasks have no labels of others.
+        self.under_way: set[Reads] = set()
 
     def put(self, root: int, text: str, place: int = 0) -> None:
         """Labels a task, which no call makes or takes away meanwhile."""
@@ -53,7 +42,7 @@ class Labels:
             raise TypeError(f"a label is a str, not {type(text).__name__}")
         if not text or not text.isprintable():
             raise ValueError(f"a label is some printable text of one line, not {text!r}")
-        self.by_root[root] = Label(text, place, [it for it in list(self.under_way) if root in it.read()])
+        self.by_root[root] = Label(text, place, [it for it in list(self.under_way) if root in it()])
 
     def fork(self, root: int, place: int) -> None:
         """Says that a fork at the place has made a task with the number."""
@@ -61,10 +50,10 @@ class Labels:
         if label is not None and label.place <= place:
             label.text = ""
 
-    def end(self, call: UnderWay) -> None:
+    def end(self, call: Reads) -> None:
         """Says that a call under way is over. What goes is the label that was found: by now there may be another one in its place."""
         if self.by_root:
-            for label in filter(None, map(self.by_root.get, call.read())):
+            for label in filter(None, map(self.by_root.get, call())):
                 if call not in label.behind:
                     label.text = ""
         self.under_way.discard(call)

@@ -12,7 +12,7 @@ from pidtab.batch import read_call
 from pidtab.bounds import check_range
 from pidtab.calls import Call
 from pidtab.effects import Effect, add_effects
-from pidtab.labels import Labelled, UnderWay
+from pidtab.labels import Labelled, Reads
 from pidtab.native import GREATEST_PID, ROOT_INIT, Ask, AskableCalls, ToldCalls, Would, answer_of, fault_of, make_call, read_written
 from pidtab.raw import DIFFERS, DONE, FORK, FORKED, Answer, PidtabReply
 
@@ -81,8 +81,9 @@ class NumberCalls(Labelled, AskableCalls):
         number, root = check_range("child", told.child, 0, GREATEST_PID), check_range("root", told.root, 0, GREATEST_PID)
         reply = PidtabReply()
         # Another reply is that to no call.
-        with UnderWay(self._labels, lambda: tasks_of([reply] if (reply.first, reply.second) == (number, root) else [])):
-            status = self._made("fork_at", caller, bool(new), number, root, reply)
+        status = self._noted(
+            lambda: tasks_of([reply] if (reply.first, reply.second) == (number, root) else []), self._made, "fork_at", caller, bool(new), number, root, reply
+        )
         if status == DIFFERS:
             return False
         if status != DONE:
@@ -98,8 +99,16 @@ class NumberCalls(Labelled, AskableCalls):
         """The status of a fork."""
         # It has the root number of an earlier one.
         reply.second = 0
-        with UnderWay(self._labels, partial(tasks_of, [reply])):
-            return make(call, reply)
+        return self._noted(partial(tasks_of, [reply]), make, call, reply)
+
+    def _noted(self, reads: Reads, make: Callable[..., int], *given: object) -> int:
+        """The status of a call that may fork: its tasks have no labels of others."""
+        labels = self._labels
+        labels.under_way.add(reads)
+        try:
+            return make(*given)
+        finally:
+            labels.end(reads)
 
     def _make_told(self, call: Call, form: Form[T], effects: list[Effect]) -> T:
         """Makes a call, and adds what it did."""
@@ -126,8 +135,7 @@ class NumberCalls(Labelled, AskableCalls):
     def _answer(self, line: bytes) -> str:
         """The answer to a line."""
         room, size = Answer(), ctypes.c_size_t()
-        with UnderWay(self._labels, partial(task_of, room, size)):
-            status = self._line(line, len(line), room, len(room), size)
+        status = self._noted(partial(task_of, room, size), self._line, line, len(line), room, len(room), size)
         if status != DONE:
             return answer_of(status)
         return ctypes.string_at(room, size.value).decode("ascii")
@@ -138,8 +146,7 @@ class NumberCalls(Labelled, AskableCalls):
         while begin < len(calls):
             block = calls[begin : begin + BLOCK]
             replies, made = (PidtabReply * len(block))(), ctypes.c_size_t()
-            with UnderWay(self._labels, partial(tasks_of, replies)):
-                status = self._made_calls(b"".join(block), len(block), replies, len(block), made)
+            status = self._noted(partial(tasks_of, replies), self._made_calls, b"".join(block), len(block), replies, len(block), made)
             yield from [ANSWERS[it.kind](it) for it in replies[: made.value]]
             begin += made.value
             if status != DONE:
