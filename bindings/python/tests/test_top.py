@@ -263,12 +263,16 @@ class Program(Histories):
         told = self.path.with_name("metrics")
         words = [sys.executable, "-B", str(PROGRAM), "--every", "0.05", "--prometheus", str(told), str(self.path)]
         with subprocess.Popen(words, stderr=subprocess.PIPE, text=True) as child:
-            self.wait_for(told, "pidtab_calls_total 11\n")
-            self.save("getpid 1")
-            self.wait_for(told, "pidtab_calls_total 12\n")
-            child.send_signal(2)
-            self.assertEqual(child.communicate(timeout=60)[1], "")
-            self.assertEqual(child.returncode, 0)
+            try:
+                self.wait_for(told, "pidtab_calls_total 11\n")
+                self.save("getpid 1")
+                self.wait_for(told, "pidtab_calls_total 12\n")
+                child.send_signal(2)
+                self.assertEqual(child.communicate(timeout=60)[1], "")
+                self.assertEqual(child.returncode, 0)
+            finally:
+                # One that has ended gets no signal. Without this the end of a failure would wait for it.
+                child.kill()
 
     def wait_for(self, path: Path, text: str) -> None:
         """Waits until a file has the text."""
