@@ -337,10 +337,14 @@ class Signals(Tables):
         words = {**os.environ, "PYTHONPATH": str(PACKAGE)}
         with subprocess.Popen([sys.executable, "-B", "-c", program], env=words, stdout=subprocess.PIPE, stderr=subprocess.PIPE, text=True) as child:
             assert child.stdout is not None
-            self.assertEqual(child.stdout.readline(), "waits\n")
-            time.sleep(4 * SHORT)
-            child.send_signal(signal.SIGINT)
-            _, said = child.communicate(timeout=LONG)
+            try:
+                self.assertEqual(child.stdout.readline(), "waits\n")
+                time.sleep(4 * SHORT)
+                child.send_signal(signal.SIGINT)
+                _, said = child.communicate(timeout=LONG)
+            finally:
+                # One that has ended gets no signal. Without this the end of a failure would wait for it.
+                child.kill()
         self.assertEqual((child.returncode, said.splitlines()[-1]), (-signal.SIGINT, "KeyboardInterrupt"))
 
 
