@@ -95,6 +95,7 @@ struct process {
 	pid_t real;
 	uint32_t root;
 	uint64_t space;          /* its namespace */
+	uint32_t parent;         /* the root number of its parent in the table */
 	struct thread *threads;  /* real ones that the tracer knows */
 	int at[STAGES];          /* how many of them are in each stage */
 	bool ended;              /* in the table */
@@ -129,6 +130,7 @@ extern struct process *processes;
 void *need(void *memory);
 struct name *name_make(pid_t real, uint32_t root);
 void name_outside(pid_t real);
+void name_beside(struct name *name, const struct name *parent, uint32_t number);
 struct name *name_of_real(pid_t real);
 struct process *process_of_root(uint32_t root);
 struct process *process_seen(const struct process *caller, uint32_t number);
@@ -170,7 +172,11 @@ struct thread {
 	const struct call *call; /* what it makes, in the table of calls */
 	struct registers made;   /* the call as the program made it */
 	enum injected injected;  /* the call of ours */
-	struct registers behind; /* how it goes on after that */
+	union {
+		struct registers given;  /* the program's call as the kernel has it, where that is known */
+		struct registers behind; /* with a call of ours: how it goes on after that */
+	};
+	bool knows_given;
 	uint64_t put_off;        /* signals that came before such a call, a bit each */
 	bool has_no_exit;        /* the call is a wait whose exit is not seen: the next stop comes right behind it */
 	uint64_t entered;        /* when, in events */

@@ -224,10 +224,15 @@ static void inherit_state(struct process *parent, struct process *child, uint64_
 static struct process *process_of_child(struct thread *thread, pid_t real)
 {
 	struct process *process;
+	struct name *name;
 
 	if (thread->stage != ASKING)
 		return thread->process;
-	process = process_new(name_make(real, thread->child_root));
+	name = name_make(real, thread->child_root);
+	if (!thread->makes_space && !thread->process->joined)
+		name_beside(name, thread->process->name, thread->child);
+	process = process_new(name);
+	process->parent = thread->process->root;
 	inherit_state(thread->process, process, thread->flags);
 	process->is_init = thread->makes_space;
 	return process;

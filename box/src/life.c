@@ -7,10 +7,14 @@
 #include <sys/ptrace.h>
 #include <sys/wait.h>
 
-/* The parent in the table, if it is not outside. */
+/* The parent in the table, as each exit tells who takes its children, if it is not outside. */
 struct process *parent_of(const struct process *child)
 {
-	return process_of_root(table_stat(SUPERVISOR, child->root).parent);
+	uint32_t asked = checking ? table_stat(SUPERVISOR, child->root).parent : child->parent;
+
+	if (asked != child->parent)
+		report_difference("the kept parent", child->root, child->parent, asked);
+	return process_of_root(child->parent);
 }
 
 /* The kernel says whose child it is: the ends of its former parents are fetched before. Whether there were some. */
@@ -94,6 +98,7 @@ static void take_effect(const struct pidtab_effect *effect, struct process *exit
 	if (!process || process == exiting)
 		return;
 	if (effect->what == PIDTAB_TASK_ADOPTED) {
+		process->parent = (uint32_t)effect->value;
 		reap_unwanted(process);
 		return;
 	}

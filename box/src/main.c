@@ -144,6 +144,7 @@ static struct process *make_init(pid_t real, uint64_t group)
 
 	table_do(PIDTAB_FORK, SUPERVISOR, 0, 1);
 	init = process_new(name_make(real, (uint32_t)reply.second));
+	init->parent = SUPERVISOR;
 	if (group)
 		table_control(PIDTAB_MOVE, BOX_INIT, group, 0, 0);
 	init->is_init = true;

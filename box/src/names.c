@@ -85,6 +85,19 @@ static void read_levels(struct name *name)
 	}
 }
 
+/* A child in its parent's namespace, which is the outermost one of the box, has one number there and its root number: nothing is to be asked. */
+void name_beside(struct name *name, const struct name *parent, uint32_t number)
+{
+	enum { LEVELS = 2 };
+
+	if (parent->count != LEVELS)
+		return;
+	name->count = LEVELS;
+	name->kept = need(calloc(LEVELS, sizeof *name->kept));
+	name->kept[0] = (struct level){ parent->kept[0].space, name->root };
+	name->kept[1] = (struct level){ parent->kept[1].space, number };
+}
+
 /* Those in the caller's namespace and in the ones inside it, and how many; none where the caller cannot see it. */
 uint32_t numbers_of(const struct name *name, const struct process *caller, uint32_t *numbers)
 {
@@ -111,7 +124,8 @@ struct process *process_new(struct name *name)
 {
 	struct process *process = need(calloc(1, sizeof *process));
 
-	read_levels(name);
+	if (!name->kept)
+		read_levels(name);
 	*process = (struct process){ .name = name, .real = name->real, .root = name->root,
 		.space = name->kept[name->count - 1].space, .memory = memory_new(),
 		.next = processes };

@@ -3,23 +3,11 @@
 #include "registers.h"
 
 #include <elf.h>
+#include <errno.h>
+#include <stddef.h>
 #include <string.h>
 #include <sys/ptrace.h>
 #include <sys/uio.h>
-
-bool registers_read(pid_t tid, struct registers *registers)
-{
-	struct iovec all = { &registers->all, sizeof registers->all };
-
-	return !ptrace(PTRACE_GETREGSET, tid, NT_PRSTATUS, &all);
-}
-
-bool registers_write(pid_t tid, const struct registers *registers)
-{
-	struct iovec all = { (void *)&registers->all, sizeof registers->all };
-
-	return !ptrace(PTRACE_SETREGSET, tid, NT_PRSTATUS, &all);
-}
 
 void registers_restore(struct registers *registers, const struct registers *made)
 {
@@ -36,6 +24,27 @@ bool registers_make_none(pid_t tid, struct registers *registers)
 }
 
 #if defined(__x86_64__)
+
+bool registers_read(pid_t tid, struct registers *registers)
+{
+	return !ptrace(PTRACE_GETREGS, tid, 0, &registers->all);
+}
+
+bool registers_write(pid_t tid, const struct registers *registers)
+{
+	return !ptrace(PTRACE_SETREGS, tid, 0, &registers->all);
+}
+
+/* The result may be -1 too. */
+bool registers_read_result(pid_t tid, struct registers *registers)
+{
+	long result;
+
+	errno = 0;
+	result = ptrace(PTRACE_PEEKUSER, tid, offsetof(struct user_regs_struct, rax), 0);
+	registers->all.rax = (unsigned long long)result;
+	return result != -1 || !errno;
+}
 
 static unsigned long long *place(struct registers *registers, int index)
 {
@@ -72,18 +81,19 @@ void registers_set_result(struct registers *registers, int64_t result)
 
 bool registers_change(pid_t tid, const struct registers *present, const struct registers *wanted)
 {
-	enum { WORD = sizeof present->all.rax, WORDS = sizeof present->all / WORD };
+	enum { WORD = sizeof present->all.rax, WORDS = sizeof present->all / WORD, FEW = 2 };
 	const unsigned long long *one = &present->all.r15, *other = &wanted->all.r15; /* the first ones */
-	int differing = 0, last = 0;
+	int differing[FEW], count = 0;
+	bool is_done = true;
 
-	for (int i = 0; i < WORDS; i++)
-		if (one[i] != other[i]) {
-			differing++;
-			last = i;
-		}
-	if (differing == 1)
-		return !ptrace(PTRACE_POKEUSER, tid, last * WORD, other[last]);
-	return differing == 0 || registers_write(tid, wanted);
+	for (int i = 0; i < WORDS && count <= FEW; i++)
+		if (one[i] != other[i] && count++ < FEW)
+			differing[count - 1] = i;
+	if (count > FEW)
+		return registers_write(tid, wanted);
+	for (int i = 0; i < count; i++)
+		is_done &= !ptrace(PTRACE_POKEUSER, tid, differing[i] * WORD, other[differing[i]]);
+	return is_done;
 }
 
 bool registers_make_other(pid_t tid, struct registers *registers, int64_t call)
@@ -100,6 +110,25 @@ void registers_repeat(struct registers *registers, int64_t call)
 }
 
 #else
+
+bool registers_read(pid_t tid, struct registers *registers)
+{
+	struct iovec all = { &registers->all, sizeof registers->all };
+
+	return !ptrace(PTRACE_GETREGSET, tid, NT_PRSTATUS, &all);
+}
+
+bool registers_write(pid_t tid, const struct registers *registers)
+{
+	struct iovec all = { (void *)&registers->all, sizeof registers->all };
+
+	return !ptrace(PTRACE_SETREGSET, tid, NT_PRSTATUS, &all);
+}
+
+bool registers_read_result(pid_t tid, struct registers *registers)
+{
+	return registers_read(tid, registers);
+}
 
 int64_t registers_call(const struct registers *registers)
 {

@@ -23,9 +23,12 @@ struct registers {
 };
 
 bool registers_read(pid_t tid, struct registers *registers);
+
+/* Behind a call: its result, into the registers that it was made with. A call changes no other one. */
+bool registers_read_result(pid_t tid, struct registers *registers);
 bool registers_write(pid_t tid, const struct registers *registers);
 
-/* Writes those that differ from the ones that the thread has. One alone takes a cheaper call, where the machine has it. */
+/* Writes those that differ from the ones that the thread has. A few take cheaper calls, where the machine has them. */
 bool registers_change(pid_t tid, const struct registers *present, const struct registers *wanted);
 
 int64_t registers_call(const struct registers *registers);

@@ -30,6 +30,8 @@ enum onward refuse(struct thread *thread)
 enum onward watch(struct thread *thread, const struct registers *registers)
 {
 	registers_change(thread->tid, &thread->made, registers);
+	thread->given = *registers;
+	thread->knows_given = true;
 	thread->phase = IN_CALL;
 	thread->entered = events;
 	return SEE_EXIT;
@@ -131,6 +133,7 @@ static enum onward keep_data(struct thread *thread, enum onward onward)
 {
 	if (onward == SEE_EXIT || !thread->data || !data_is_carried(registers_call(&thread->made)))
 		return onward;
+	thread->knows_given = false;
 	thread->phase = IN_CALL;
 	thread->entered = events;
 	return SEE_EXIT;
@@ -176,11 +179,11 @@ static bool is_followed(struct thread *thread, const struct registers *registers
 /* The exit of a call. The program finds its arguments as it passed them. */
 enum onward call_leave(struct thread *thread)
 {
-	struct registers registers, present;
+	struct registers registers = thread->given, present;
 	int64_t result;
 
 	thread->phase = FREE;
-	if (!registers_read(thread->tid, &registers))
+	if (!(thread->knows_given ? registers_read_result : registers_read)(thread->tid, &registers))
 		return GO;
 	present = registers;
 	result = registers_result(&registers);

@@ -75,14 +75,20 @@ static bool has_live_children_alone(const struct process *process)
 	return count > 0;
 }
 
+/* Whom the wait is for, if that is one process. */
+static const struct process *one_meant(const struct thread *thread)
+{
+	int32_t pid = (int32_t)call_argument(thread, 0);
+
+	return pid > 0 ? process_seen(thread->process, (uint32_t)pid) : NULL;
+}
+
 /* Whether all whom the wait is for live, as far as it is for one child, or for any. */
-static bool is_for_live(const struct thread *thread)
+static bool is_for_live(const struct thread *thread, const struct process *child)
 {
 	const struct process *caller = thread->process;
-	int32_t pid = (int32_t)call_argument(thread, 0);
-	const struct process *child = pid > 0 ? process_seen(caller, (uint32_t)pid) : NULL;
 
-	return pid == -1 ? has_live_children_alone(caller) : is_live(child) && parent_of(child) == caller;
+	return call_argument(thread, 0) == -1 ? has_live_children_alone(caller) : is_live(child) && parent_of(child) == caller;
 }
 
 /* Whether the kernel has a child of the process that the table has not, and that a wait for any might find. */
@@ -93,22 +99,22 @@ static bool may_have_others(const struct thread *thread)
 
 /* Whether a SIGCHLD is sure to stop the caller right behind its wait: its only thread waits for the end of children that live, and
  * neither ignores nor blocks the signal. Another signal that interrupts it stops it too. */
-static bool is_ended_by_signal(const struct thread *thread)
+static bool is_ended_by_signal(const struct thread *thread, const struct process *child)
 {
 	const struct process *caller = thread->process;
 	uint64_t blocked;
 
 	if (call_argument(thread, 2) != 0 || threads_of(caller) != 1 || caller->shares_handlers || caller->ignores_children || caller->wants_no_zombies)
 		return false;
-	if (!is_for_live(thread) || may_have_others(thread))
+	if (!is_for_live(thread, child) || may_have_others(thread))
 		return false;
 	return !ptrace(PTRACE_GETSIGMASK, thread->tid, sizeof blocked, &blocked) && !(blocked >> (SIGCHLD - 1) & 1);
 }
 
 /* Whether the wait finds nobody, and does not wait. */
-static bool is_in_vain(const struct thread *thread)
+static bool is_in_vain(const struct thread *thread, const struct process *child)
 {
-	if (call_argument(thread, 2) != WNOHANG || !is_for_live(thread))
+	if (call_argument(thread, 2) != WNOHANG || !is_for_live(thread, child))
 		return false;
 	return call_argument(thread, 0) != -1 || !takes_orphans(thread->process) || !has_unfetched_end();
 }
@@ -117,12 +123,15 @@ static bool is_in_vain(const struct thread *thread)
  * nobody is answered. */
 enum onward enter_wait4(struct thread *thread, struct registers *registers)
 {
+	const struct process *child = one_meant(thread);
 	enum onward onward;
 
-	if (!checking && is_in_vain(thread))
+	if (!checking && is_in_vain(thread, child))
 		return answer_with(thread, 0);
-	onward = translate(thread, registers);
-	thread->has_no_exit = is_ended_by_signal(thread);
+	if (child)
+		registers_set_argument(registers, 0, (uint64_t)child->real);
+	onward = child ? watch(thread, registers) : translate(thread, registers);
+	thread->has_no_exit = is_ended_by_signal(thread, child);
 	return thread->has_no_exit ? GO : onward;
 }
 
