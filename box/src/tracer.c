@@ -123,13 +123,25 @@ void begin(struct thread *thread)
 	trace(is_nested && make_subreaper(thread) ? PTRACE_SYSCALL : PTRACE_CONT, thread->tid, 0);
 }
 
+/* What a thread tells with its event. One that was killed meanwhile may be in the stop of its end already, whose message is its status: a number that is
+ * another process's, or 0, which is this program's group to kill(2). So the stop is looked at behind the message. */
+static bool read_message(const struct thread *thread, int event, unsigned long *message)
+{
+	siginfo_t info;
+
+	if (ptrace(PTRACE_GETEVENTMSG, thread->tid, 0, message))
+		return false;
+	return !thread->sees_end || (!ptrace(PTRACE_GETSIGINFO, thread->tid, 0, &info) && info.si_code >> 8 == event);
+}
+
 /* The thread that executes takes the number of the main one, and all others are over. */
 static void executed(struct thread *thread)
 {
 	struct process *process = thread->process;
 	unsigned long former = 0;
 
-	trace(PTRACE_GETEVENTMSG, thread->tid, (long)&former);
+	if (!read_message(thread, PTRACE_EVENT_EXEC, &former))
+		former = (unsigned long)thread->tid;
 	if (former != (unsigned long)thread->tid && former < MOST_REAL && thread_of_real((pid_t)former)) {
 		thread_free(thread_of_real((pid_t)former));
 		if (!process->ended)
@@ -301,8 +313,9 @@ static void event_stopped(struct thread *thread, int event, int signal)
 		break;
 	case PTRACE_EVENT_VFORK:
 	case PTRACE_EVENT_CLONE:
-		if (!ptrace(PTRACE_GETEVENTMSG, thread->tid, 0, &real))
-			forked(thread, (pid_t)real);
+		if (!read_message(thread, event, &real))
+			return; /* it was killed */
+		forked(thread, (pid_t)real);
 		trace(thread->phase == IN_CALL ? PTRACE_SYSCALL : PTRACE_CONT, thread->tid, 0);
 		break;
 	case PTRACE_EVENT_EXEC:

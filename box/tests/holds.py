@@ -194,11 +194,29 @@ def storms(tell):
     tell.say("storms", f"{len(STORMS)} of them")
 
 
+# An event is looked at late, so that its thread has often been killed; and what tells that it was.
+LATE = ("tracer.c", "\tif (ptrace(PTRACE_GETEVENTMSG,", "\tusleep(2000);\n\tif (ptrace(PTRACE_GETEVENTMSG,")
+LATE_FAULT = ("tracer.c", "return !thread->sees_end ||", "usleep(2000);\n\treturn !ptrace(PTRACE_GETEVENTMSG, thread->tid, 0, message) ||")
+
+
+def late(tell, storm):
+    """A box that is late takes the status of a thread that was killed for no number of a child: it would kill who has that."""
+    for name, fault, is_right in (("an event is looked at late", LATE, True), ("a status is a child", LATE_FAULT, False)):
+        box = faults.build(name, *fault)
+        ends = {in_box([storm, "leave", "4", "vfork"], "fault-late", SECONDS, box=box).status for _ in range(TIMES)}
+        if (ends == {0}) != is_right:
+            tell.fault(f"falls, {name}", f"statuses {ends}")
+    shutil.rmtree(rig.OUT / "fault")
+    for log in rig.OUT.glob("fault-late.*"):
+        log.unlink()
+
+
 def falls(tell):
     """An init that ends while others, or its own threads, fork: the box ends with it."""
     storm, box = rig.compiled("storm", "-pthread"), rig.checked_box()
     for way, count, what in FALLS:
         often(tell, f"{way}-{count}-{what}", [storm, way, str(count), what], TIMES, box=box)
+    late(tell, storm)
     tell.say("falls", f"{len(FALLS)} kinds, {TIMES} times each")
 
 
