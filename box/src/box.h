@@ -353,6 +353,7 @@ void begin(struct thread *thread);
 void thread_ended(struct thread *thread, int status);
 void exec_told(struct process *process);
 void catch_up(const struct process *process, int flags);
+bool catch_up_threads(const struct process *process, const struct thread *served);
 int supervise(pid_t init);
 void trace_first(pid_t init, struct process *process);
 bool write_memory(pid_t tid, uint64_t at, const void *from, size_t size);

@@ -220,6 +220,20 @@ static void inherit_state(struct process *parent, struct process *child, uint64_
 		parent->shares_handlers = child->shares_handlers = true;
 }
 
+/* A number of the kernel that comes again has been free: whoever had it was waited for, and only the stop behind that wait, or the end of the parent, is
+ * not reported yet. The newest are reported first, so the others may be late. */
+static void settle_former(const struct thread *thread, pid_t real)
+{
+	const struct name *former;
+
+	for (int i = 0; i < MOMENTS && (former = name_of_real(real)) && former->process; i++) {
+		const struct process *parent = parent_of(former->process);
+
+		if (!parent || !catch_up_threads(parent, thread))
+			wait_moment();
+	}
+}
+
 /* The process of a child that the thread has asked for; its own, if the child is a thread. */
 static struct process *process_of_child(struct thread *thread, pid_t real)
 {
@@ -241,11 +255,14 @@ static struct process *process_of_child(struct thread *thread, pid_t real)
 /* The kernel has made a process or a thread. What a fallen one makes is nobody's. */
 void forked(struct thread *thread, pid_t real)
 {
-	struct thread *child = thread_of_real(real);
 	bool is_thread = thread->stage != ASKING;
+	struct thread *child;
 
+	if (!is_thread)
+		settle_former(thread, real);
 	if (thread->stage == FALLEN)
 		return;
+	child = thread_of_real(real);
 	if (!child && is_thread && syscall(SYS_tgkill, thread->process->real, real, 0))
 		return; /* its end was reported before */
 	if (!child)

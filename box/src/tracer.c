@@ -399,6 +399,19 @@ void catch_up(const struct process *process, int flags)
 		handle(real, status);
 }
 
+/* The same of the first of its threads that has something to report, but of none that is served now. Whether there was one. */
+bool catch_up_threads(const struct process *process, const struct thread *served)
+{
+	int status;
+
+	for (const struct thread *thread = process->threads; thread; thread = thread->next)
+		if (thread != served && waitpid(thread->tid, &status, __WALL | WNOHANG) == thread->tid) {
+			handle(thread->tid, status);
+			return true;
+		}
+	return false;
+}
+
 /* Where the box runs beside the program, on another processor, the next report often comes within some microseconds: to look for it a few
  * times then takes less than to sleep and be woken. Where most looks are in vain they soon are rare: they keep a processor busy. */
 static pid_t report_soon(int *status)

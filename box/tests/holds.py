@@ -235,11 +235,22 @@ def bombs(tell):
 FEW_NUMBERS, FORKS = 400, 350
 REUSED = "lives True\nended ESRCH\n"
 REUSED_FAULT = ("copies.c", " || name->root != copy->root", "")
+FORKERS, STORMED = 140, "140 ended, 0 of them badly\n"
+STORM_FAULT = ("forks.c", "\tif (!is_thread)\n\t\tsettle_former(thread, real);\n", "")
 
 
 def in_few_numbers(words):
     few = f'echo {FEW_NUMBERS} > /proc/sys/kernel/pid_max && exec "$@"'
-    return in_kernel(["sh", "-c", few, "sh", *words, PYTHON, str(rig.TESTS / "inside/reused.py"), str(FORKS)], as_root=True).output
+    return in_kernel(["sh", "-c", few, "sh", *(str(it) for it in words)], 10 * SECONDS, as_root=True).output
+
+
+def storm_again(tell):
+    """A number that comes again while the stop behind the wait for its former process is not reported yet."""
+    storm, faulty = rig.compiled("storm", "-pthread"), faults.build("a number that comes soon", *STORM_FAULT)
+    for box, is_right in ((BOX, True), (faulty, False)):
+        found = {in_few_numbers([*ONE_PROCESSOR, box, "--check", storm, "at-once", FORKERS, "fork"]) for _ in range(3)}
+        if (found == {STORMED}) != is_right:
+            tell.fault("reused at once", f"{box}: {found}")
 
 
 def reused(tell):
@@ -247,14 +258,16 @@ def reused(tell):
     if not rig.IS_ROOT:
         return tell.skip("reused", "only root may set how many numbers a namespace has")
     faulty = faults.build("a number that is used again", *REUSED_FAULT)
+    program = [PYTHON, rig.TESTS / "inside/reused.py", FORKS]
     for who, words in (("kernel", []), ("box", [BOX, "--check"])):
-        found = in_few_numbers([str(it) for it in words])
+        found = in_few_numbers([*words, *program])
         if found != REUSED:
             tell.fault("reused", f"{who}: {found}")
-    if in_few_numbers([str(faulty)]) == REUSED:
+    if in_few_numbers([faulty, *program]) == REUSED:
         tell.fault("reused", "a planted fault is not found")
+    storm_again(tell)
     shutil.rmtree(rig.OUT / "fault")
-    return tell.say("reused", f"{FORKS} forks with {FEW_NUMBERS} numbers")
+    return tell.say("reused", f"{FORKS} forks with {FEW_NUMBERS} numbers, and {FORKERS} forkers")
 
 
 BYTES = ("again", "executed", "read", "senders", "stacks", "threads", "taken", "filters")
