@@ -77,6 +77,18 @@ REFUSED = "read True True\n" + "".join(f"written by {it} ENOSYS ENOSYS\n" for it
     "at a folder ENOSYS\nanother file opened\n")
 
 
+# The box is number 1 of a namespace of the kernel, and its program, which is 1 to itself, is 2.
+MOVES = 'echo $$ > {0}/cgroup.procs; for it in 1 2; do grep -c :{1}$ /proc/$it/cgroup; done'
+
+
+def moved(tell, group):
+    """With --proc kernel the number is the kernel's: who has it there is moved."""
+    script = MOVES.format(group, group.removeprefix(GROUPS))
+    found = in_kernel([BOX, "--proc", "kernel", "sh", "-c", script], as_root=True).output
+    if found != "1\n0\n":
+        tell.fault("groups", f"with --proc kernel: {found}")
+
+
 def groups(tell):
     """A process beside the box is moved by no number that the program has: cgroup.procs has the program's, and is not opened for writing."""
     if not rig.IS_ROOT or not os.path.exists(f"{GROUPS}/cgroup.procs"):
@@ -90,6 +102,7 @@ def groups(tell):
             is_named = "`cgroup.procs`" in report.read()
         if done.stdout != REFUSED or not is_named:
             tell.fault("groups", f"{done.stdout}{done.stderr} named in the report: {is_named}")
+        moved(tell, group)
     finally:
         os.rmdir(group)
         shutil.rmtree(home)
@@ -124,7 +137,7 @@ def passing_socket():
 def unseen(tell):
     """Each number that the page says passes unseen does so, and is right in the kernel's namespace."""
     count = 0
-    for as_root, most in ((False, 25), (True, 3))[:1 + rig.IS_ROOT]:
+    for as_root, most in ((False, 26), (True, 3))[:1 + rig.IS_ROOT]:
         with passing_socket() as path:
             words = ["env", f"SOCKET={path}", f"OUTSIDE={os.readlink('/proc/self/ns/pid')}", PYTHON,
                 str(rig.TESTS / "inside/unseen.py")]

@@ -118,6 +118,11 @@ def attributes():
     return os.getpid() if os.listxattr(f"/proc/{os.getpid()}/exe") == [] else 0
 
 
+def truncated():
+    os.truncate(f"/proc/{os.getpid()}/comm", 0)
+    return os.getpid()
+
+
 def executed():
     return os.getpid() if subprocess.run([f"/proc/{os.getpid()}/exe", "-c", ""], check=False).returncode == 0 else 0
 
@@ -272,7 +277,7 @@ def group_without_leader():
 ASKED = (
     last_number, socket_from_outside, lock_by_mprotect, lock_through_execution, received_file, type_of_file,
     by_dots, setuid_gains, call_of_32_bits, duplicated_signalfd, current_folder, link_of_descriptor, locks,
-    system_v, timers, scheduler, netlink, netlink_ports, thread_by_clone, by_link, attributes, executed,
+    system_v, timers, scheduler, netlink, netlink_ports, thread_by_clone, by_link, attributes, truncated, executed,
     undumpable, limit,
 )
 
