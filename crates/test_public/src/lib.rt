@@ -67,6 +67,8 @@ mod states;
 #[cfg(test)]
 mod texts;
 #[cfg(test)]
+mod threads;
+#[cfg(test)]
 mod tree;
 #[cfg(test)]
 mod workers;

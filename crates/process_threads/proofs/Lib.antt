@@ -1,0 +1,3 @@
+pub mod Counted
+pub mod Told
+pub mod Kept

@@ -1,0 +1,2 @@
+pub mod Threads
+pub mod Places
