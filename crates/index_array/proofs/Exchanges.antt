@@ -1,10 +1,11 @@
 -- The 64 indexes of one leaf, and a leaf that is exchanged for another.
-use Rattle.std.proofs.Common.{ℕ, ◌≡◌, ◌≢◌, ◌+◌, ◌/◌, ◌%◌, ◌^◌, ◌<◌, ◌≤◌, sym, ap, ◌∙◌, arith, refl, List, length, get_or, true, Option, Some, None, inl, inr}
+use Rattle.std.proofs.Common.{ℕ, ◌≡◌, ◌≢◌, ◌+◌, ◌*◌, ◌/◌, ◌%◌, ◌^◌, ◌<◌, ◌≤◌, sym, ap, ◌∙◌, arith, refl, List, length, get_or, true, Option, Some, None, inl, inr}
 use Rattle.std.proofs.Math.ListN.{set}
 use Rattle.std.proofs.lemmas.List.{get_or_past}
 use Rattle.std.proofs.lemmas.Bool.{cases_lt, false≢true}
+use Rattle.std.specs.Prelude.{MatchOption}
 use Rattle.index_array.specs.Place.{Place, bare_place, place_at, entry_at, is_prepared, KeepsPrepared, HasRoom, SwapsLeaf}
-use Rattle.index_array.specs.Tree.{Tree, places_of, IsNode}
+use Rattle.index_array.specs.Tree.{Tree, places_of, IsNode, IsInChild, IsInLeaf}
 use Rattle.index_array.specs.declared.bits.Words.{Words}
 use Rattle.index_array.proofs.Powers.{each_height}
 use Rattle.index_array.proofs.Blocks.{place_child, place_empty}
@@ -56,6 +57,35 @@ leaf_slot = each_height (λ h. (j : ℕ) → 0 < h → j % 64 ^ h % 64 ≡ j % 6
 
     three : (j : ℕ) → j % 262144 % 64 ≡ j % 64
     three j = omega arith
+
+-- so an index by its leaf and its slot
+by_leaf : (x y z : ℕ) → x / 64 ≡ y / 64 → x % 64 ≡ z % 64 → x ≡ y / 64 * 64 + z % 64
+by_leaf x y z e f = omega (arith, e, f)
+
+-- the leaf of an index is one of the child that the index is below
+module _ {T : Type 0} (w : Words) (h : ℕ) (es : List (Option T)) (cs : List (Option (Tree T))) (node : IsNode w h es cs) (i k : ℕ) (b : Tree T) (way : Way h cs i k (Some b)) where
+  pub slot_in_child : i % 64 ^ h % 64 ≡ i % 64
+  slot_in_child = leaf_slot h node.low i way.up
+
+  pub leaf_in_child : (j : ℕ) → j / 64 ≡ i / 64 → place_at (places_of w h es cs) j ≡ place_at b.places (i % 64 ^ h / 64 * 64 + j % 64)
+  leaf_in_child j e =
+      place_child w h es cs node way.up j b (ap (λ n. get_or cs n None) (same_slot h node.low i j way.up e) ∙ way.slot)
+      ∙ ap (place_at b.places) (by_leaf (j % 64 ^ h) (i % 64 ^ h) j (same_leaf h node.low i j way.up e) (leaf_slot h node.low j way.up))
+
+-- and its leaf is that of the index in the child
+leaf_of_child : {T : Type 0} (ps : List (Place T)) (i : ℕ) (child : Tree T) (r : ℕ) (leaf : Tree T) (k : ℕ) → IsInChild ps i child r → IsInLeaf child.places r leaf k → IsInLeaf ps i leaf k
+leaf_of_child ps i child r leaf k up low = record {
+  place = up.place ∙ low.place;
+  slot = low.slot ∙ up.slot;
+  whole = λ j e. up.leaf j e ∙ low.whole (r / 64 * 64 + j % 64) (omega arith) ∙ ap (place_at leaf.places) (let same : (r / 64 * 64 + j % 64) % 64 ≡ j % 64 = omega arith in same);
+  prepared = ap (λ (p : Place _). p.prepared) up.place ∙ low.prepared;
+}
+
+-- so the leaf that the child answers is the node's
+pub leaf_through : {X T : Type 0} (ps : List (Place T)) (i : ℕ) (child : Tree T) (r : ℕ) → IsInChild ps i child r → (o : Option (X × ℕ)) (tree : X → Tree T)
+    → MatchOption o (place_at child.places r ≡ bare_place) (λ p. IsInLeaf child.places r (tree p.0) p.1) → MatchOption o (place_at ps i ≡ bare_place) (λ p. IsInLeaf ps i (tree p.0) p.1)
+leaf_through ps i child r up None tree none = up.place ∙ none
+leaf_through ps i child r up (Some p) tree low = leaf_of_child ps i child r (tree p.0) p.1 up low
 
 -- past the end of a node are whole leaves
 past_leaf : (h : ℕ) → h < 4 → (i j : ℕ) → 64 ^ (h + 1) ≤ i → j / 64 ≡ i / 64 → 64 ^ (h + 1) ≤ j

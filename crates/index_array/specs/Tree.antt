@@ -1,5 +1,5 @@
 -- A node, seen as the places of the indexes below it.
-use Rattle.std.specs.Prelude.{ℕ, zero, suc, ◌≡◌, ◌+◌, ◌^◌, ◌<◌, Bool, true, Option, Some, None, List, [], ◌∷◌, ◌++◌, length, replicate, map, slice_index_or, if◌then◌else◌}
+use Rattle.std.specs.Prelude.{ℕ, zero, suc, ◌≡◌, ◌+◌, ◌*◌, ◌/◌, ◌%◌, ◌^◌, ◌<◌, Bool, true, Option, Some, None, List, [], ◌∷◌, ◌++◌, length, replicate, map, slice_index_or, if◌then◌else◌}
 use Rattle.std.specs.List.{flat_map, list_any}
 use Rattle.std.specs.Option.{option_map}
 use Rattle.std.proofs.Common.{Box}
@@ -55,15 +55,18 @@ pub record IsChildNode {T : Type 0} (h : ℕ) (t : Tree T) : Type 0 where
   pub height : t.height + 1 ≡ h
   pub whole : length t.places ≡ 64 ^ h
 
--- what is at index i of these places is at index r of a child
+-- what is at index i of these places is at index r of a child, and so is the rest of its leaf
 pub record IsInChild {T : Type 0} (ps : List (Place T)) (i : ℕ) (child : Tree T) (r : ℕ) : Type 0 where
   pub place : place_at ps i ≡ place_at child.places r
   pub covered : r < 64 ^ (child.height + 1)
+  pub slot : r % 64 ≡ i % 64
+  pub leaf : (j : ℕ) → j / 64 ≡ i / 64 → place_at ps j ≡ place_at child.places (r / 64 * 64 + j % 64)
 
--- what is at index i of these places is in slot k of a leaf
+-- what is at index i of these places is in slot k of a leaf, and so is the rest of its 64
 pub record IsInLeaf {T : Type 0} (ps : List (Place T)) (i : ℕ) (leaf : Tree T) (k : ℕ) : Type 0 where
   pub place : place_at ps i ≡ place_at leaf.places k
-  pub slot : k < 64
+  pub slot : k ≡ i % 64
+  pub whole : (j : ℕ) → j / 64 ≡ i / 64 → place_at ps j ≡ place_at leaf.places (j % 64)
   pub prepared : is_prepared ps i ≡ true
 
 -- a node of this height with no entry

@@ -9,11 +9,11 @@
 #![tactic(auto)]
 
 ghost use Rattle.std.specs.Prelude.{◌≡◌, ◌≢◌, ℕ, ◌<◌, ◌≤◌, min, Option, Some, None, MatchOption, MatchBool, IfOk};
-ghost use Rattle.std.specs.Prelude.{IfErr, OnOk, OnErr, Err, ◌↔◌, true, false, not, is_some, List, length, ◌*◌};
+ghost use Rattle.std.specs.Prelude.{IfErr, OnOk, OnErr, Err, ◌↔◌, true, false, not, is_some, List, length, ◌*◌, ◌+◌, ◌/◌};
 ghost use Rattle.std.specs.Option.{option_copied};
 ghost use Rattle.{
-  index_array.specs.Place.{Place, bare_place, place_at, entry_at, is_prepared, value_at, is_marked, with_mark},
-  index_array.specs.Place.{IsLeastIndex, IsFirst, WritesEntry, KeepsEntries, KeepsPrepared, HasRoom, SwapsLeaf},
+  index_array.specs.Place.{Place, bare_place, place_at, entry_at, is_prepared, value_at, is_marked, is_unmarked},
+  index_array.specs.Place.{with_mark, IsLeastIndex, IsFirst, WritesEntry, KeepsEntries, KeepsPrepared, HasRoom, SwapsLeaf},
   index_array.specs.{Place.{HasNoEntry}, Tree.{IsInLeaf}, Words.{IsSought}, declared.bits.Sought.{Sought}},
 };
 
@@ -459,6 +459,36 @@ impl IndexArray {
         ensures { IsLeastIndex (λ k. is_marked m (entry_at self.now k)) from INDEX_COUNT result }
     {
         self.first(from, Sought::Mark(m))
+    }
+
+    /// The least index at or above `from` and below `end` whose entry has no mark. It costs a search for each leaf with
+    /// an entry that it passes, so for each 64 indexes at most.
+    pub fn first_unmarked(&self, from: u32, end: u32) -> Option<u32>
+        requires { end ≤ INDEX_COUNT }
+        ensures { IsLeastIndex (λ k. is_unmarked (entry_at self.now k)) from end result }
+    {
+        let mut at = from;
+        while at < end {
+            let present = self.next(at)?;
+            if let Some(found) = self.unmarked_near(present) {
+                return if found < end { Some(found) } else { None };
+            }
+            at = present / 64 * 64 + 64;
+        }
+        None
+    }
+
+    /// The least index at or above `from`, where there is an entry, and in its leaf whose entry has no mark.
+    #[inline(always)]
+    fn unmarked_near(&self, from: u32) -> Option<u32>
+        requires { is_some (entry_at self.now from) ≡ true }
+        ensures { IsLeastIndex (λ k. is_unmarked (entry_at self.now k)) from (from / 64 * 64 + 64) result }
+    {
+        let Some((leaf, slot)) = self.leaf(from) else {
+            unreachable!()
+        };
+        let slot = leaf.next_unmarked(slot)?;
+        Some(from / 64 * 64 + slot)
     }
 
     /// The least index at or above `from` that is present, or has a mark.

@@ -2,6 +2,7 @@ use Rattle.std.proofs.Common.{arith, ap, ◌∙◌, ◌≡◌, ◌+◌, ◌/◌,
 use Rattle.index_array.specs.Tree.{kids}
 use Rattle.index_array.proofs.Ways.{Way, way_child, way_empty, way_rest}
 use Rattle.index_array.proofs.Kids.{kid_way}
+use Rattle.index_array.proofs.Exchanges.{slot_in_child, leaf_in_child}
 use Rattle.index_array.proofs.inner.Inner.below.Goals as goal
 
 pub returns-in-None : goal.returns-in-None
@@ -15,4 +16,6 @@ returns-in-Some g c =
     record {
       place = rw (← c.self.view_is, rest, c.deref.ensures) (way_child _ _ _ _ c.self.invariant _ _ _ way);
       covered = way_rest _ _ _ _ c.self.invariant _ _ _ way _ (ap g.C.Block.tree c.deref.ensures) _ rest;
+      slot = ap (λ r. r % 64) rest ∙ slot_in_child _ _ _ _ c.self.invariant _ _ _ way;
+      leaf = λ j e. rw (← c.self.view_is, rest, c.deref.ensures) (leaf_in_child _ _ _ _ c.self.invariant _ _ _ way j e);
     }
