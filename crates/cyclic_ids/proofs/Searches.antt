@@ -10,6 +10,10 @@ pub found_same : (p q : ℕ → Bool) (from end : ℕ) (r : Option ℕ) → ((k 
 found_same p q from end None same none = λ k low high. same k ∙ none k low high
 found_same p q from end (Some a) same found = (found.0, found.1, same a ∙ found.2, λ k low high. same k ∙ found.3 k low high)
 
+-- what is found below an end is so below a later one
+pub found_wider : (p : ℕ → Bool) (from mid end a : ℕ) → mid ≤ end → IsLeastIndex p from mid (Some a) → IsLeastIndex p from end (Some a)
+found_wider p from mid end a fits found = (found.0, omega (arith, found.1, fits), found.2, found.3)
+
 -- a test that is one of the leaf in its block, and one of the tree elsewhere
 module _ (p own tree : ℕ → Bool) (block : ℕ) (here : (k : ℕ) → k / 64 ≡ block → p k ≡ own (k % 64)) (there : (k : ℕ) → k / 64 ≢ block → p k ≡ tree k) where
   -- what the leaf finds from a number of its block on comes first
@@ -38,6 +42,47 @@ module _ (p own tree : ℕ → Bool) (block : ℕ) (here : (k : ℕ) → k / 64 
     there a (λ same. absurd (omega (arith, same, below.0))) ∙ found.2,
     λ k low high. there k (λ same. absurd (omega (arith, same, high, below.0))) ∙ found.3 k low high,
   )
+
+  -- where the tree finds nothing below the block, what the leaf finds comes first
+  module _ (from end : ℕ) (fits : block * 64 + 64 ≤ end) (none : IsLeastIndex tree from (block * 64) None) where
+    pub found_next : (s : ℕ) → IsLeastIndex own (from - block * 64) 64 (Some s) → IsLeastIndex p from end (Some (block * 64 + s))
+    found_next s found =
+        let below = found.1 in
+        let same : (block * 64 + s) / 64 ≡ block = omega (arith, below) in
+        let slot : (block * 64 + s) % 64 ≡ s = omega (arith, below) in (
+          omega (arith, found.0),
+          omega (arith, below, fits),
+          here (block * 64 + s) same ∙ ap own slot ∙ found.2,
+          λ k low high. elim (cases_eq (k / 64) block) [
+            | inl within ↦ here k within ∙ found.3 (k % 64) (omega (arith, within, low)) (omega (arith, within, high))
+            | inr other ↦ there k other ∙ none k low (omega (arith, other, high, below))
+          ],
+        )
+
+    -- and where the leaf finds nothing, what the tree finds past the block
+    pub found_past : (r : Option ℕ) → from < block * 64 + 64 → IsLeastIndex own (from - block * 64) 64 None → IsLeastIndex tree (block * 64 + 64) end r → IsLeastIndex p from end r
+    found_past r near bare far = go r far
+      where
+        passed : (k : ℕ) → from ≤ k → k < block * 64 + 64 → p k ≡ false
+        passed k low high = elim (cases_eq (k / 64) block) [
+          | inl within ↦ here k within ∙ bare (k % 64) (omega (arith, within, low)) (omega arith)
+          | inr other ↦ there k other ∙ none k low (omega (arith, other, high))
+        ]
+
+        go : (r : Option ℕ) → IsLeastIndex tree (block * 64 + 64) end r → IsLeastIndex p from end r
+        go None rest = λ k low high. elim (cases_lt k (block * 64 + 64)) [
+          | inl soon ↦ passed k low soon
+          | inr late ↦ there k (λ same. absurd (omega (arith, same, late))) ∙ rest k late high
+        ]
+        go (Some a) found = (
+          omega (arith, near, found.0),
+          found.1,
+          there a (λ same. absurd (omega (arith, same, found.0))) ∙ found.2,
+          λ k low high. elim (cases_lt k (block * 64 + 64)) [
+            | inl soon ↦ passed k low soon
+            | inr late ↦ there k (λ same. absurd (omega (arith, same, late))) ∙ found.3 k late high
+          ],
+        )
 
   -- where the tree passes the test in the whole block: what it finds is outside, or leads to the leaf
   module _ (all : (k : ℕ) → k / 64 ≡ block → tree k ≡ true) where

@@ -12,13 +12,13 @@
 ghost use Rattle.std.specs.Prelude.{◌≡◌, ◌≢◌, ℕ, ◌+◌, ◌*◌, ◌/◌, ◌<◌, ◌≤◌, Option, Some, None, OnOk, IfSome, true};
 ghost use Rattle.std.specs.{Prelude.{MatchBool, false, not, is_some, [], ◌∷◌}, Option.{option_copied, option_map}};
 ghost use Rattle.{
-  index_array.specs.Place.{index_count, entry_at, is_prepared, value_at, is_marked, with_mark, IsLeastIndex},
-  index_array.specs.Place.{WritesEntry, KeepsEntries, KeepsPrepared},
+  index_array.specs.Place.{index_count, entry_at, is_prepared, value_at, is_marked, is_unmarked, with_mark},
+  index_array.specs.Place.{IsLeastIndex, WritesEntry, KeepsEntries, KeepsPrepared},
   pid_types.specs.{Draw.{restart}, Settings.{HasGoodPidMax}},
   cyclic_ids.specs.Ids.{Ids, planned, entry_beside, lesser, AreInRange},
 };
 
-use index_array::{IndexArray, Leaf};
+use index_array::{INDEX_COUNT, IndexArray, Leaf};
 use pid_types::keys::Pid;
 use std::alloc::{AllocError, Global};
 use std::marker::Model;
@@ -542,6 +542,25 @@ impl CyclicIds {
         }
         let start = from.saturating_sub(self.block * 64);
         lesser_of(found, self.block, self.leaf.next(start))
+    }
+
+    /// The least number at or above `from` that is in use and has no mark; none where there is none. It costs a search
+    /// of the tree for each block of 64 with a number in use that it passes.
+    pub fn next_unmarked(&self, from: Pid) -> Option<Pid>
+        ensures { IsLeastIndex (λ k. is_unmarked (entry_at self.now.places k)) from index_count result }
+    {
+        let first = self.block * 64;
+        let end = first + 64;
+        if from >= end {
+            return self.ids.first_unmarked(from, INDEX_COUNT);
+        }
+        if let Some(found) = self.ids.first_unmarked(from, first) {
+            return Some(found);
+        }
+        if let Some(slot) = self.leaf.next_unmarked(from.saturating_sub(first)) {
+            return Some(first + slot);
+        }
+        self.ids.first_unmarked(end, INDEX_COUNT)
     }
 
     /// Whether no number is in use. It costs one read.
