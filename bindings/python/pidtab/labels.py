@@ -16,12 +16,12 @@ Reads = Callable[[], Collection[int]]
 class Label:
     """The label of a task, whose text is empty once it is gone."""
 
-    __slots__ = ("behind", "place", "text")
+    __slots__ = ("forks", "place", "text")
 
-    def __init__(self, text: str, place: int = 0, behind: Collection[Reads] = ()) -> None:
+    def __init__(self, text: str, place: int = 0, forks: Collection[Reads] = ()) -> None:
         self.text = text
-        # So many calls were made on the table before, and so did these, which have forked a task with its number: that one, or an earlier one.
-        self.place, self.behind = place, behind
+        # How many calls were made on the table before, and those under way then that had forked a task with its number: that one, or an earlier one.
+        self.place, self.forks = place, forks
 
 
 class Labels:
@@ -54,7 +54,7 @@ class Labels:
         """Says that a call under way is over. What goes is the label that was found: by now there may be another one in its place."""
         if self.by_root:
             for label in filter(None, map(self.by_root.get, call())):
-                if call not in label.behind:
+                if call not in label.forks:
                     label.text = ""
         self.under_way.discard(call)
 

@@ -3,18 +3,19 @@
 //! The form is that of the kernel's XArray (`Documentation/core-api/xarray.rst`): a tree of nodes of
 //! 64 slots, each with words of 64 bits that say what stands below each slot, so that a search for a
 //! present, an absent or a marked index goes by words and not by slots. A call touches at most one
-//! node on each of at most four levels, a search at most two.
+//! node on each of at most four levels, a search at most two. The search for an entry without marks, of which only
+//! a leaf's words say anything, is one search for each leaf that it passes.
 //!
 //! Memory is taken by `prepare` (and by `store`, which calls it) and by nothing else.
 #![tactic(auto)]
 
 ghost use Rattle.std.specs.Prelude.{◌≡◌, ◌≢◌, ℕ, ◌<◌, ◌≤◌, min, Option, Some, None, MatchOption, MatchBool, IfOk};
-ghost use Rattle.std.specs.Prelude.{IfErr, OnOk, OnErr, Err, ◌↔◌, true, false, not, is_some, List, length, ◌*◌, ◌+◌, ◌/◌};
-ghost use Rattle.std.specs.Option.{option_copied};
+ghost use Rattle.std.specs.Prelude.{IfErr, OnOk, OnErr, Err, ◌↔◌, true, false, not, is_some, List, length, ◌*◌, ◌+◌};
+ghost use Rattle.std.specs.{Prelude.{◌/◌}, Option.{option_copied}};
 ghost use Rattle.{
   index_array.specs.Place.{Place, bare_place, place_at, entry_at, is_prepared, value_at, is_marked, is_unmarked},
-  index_array.specs.Place.{with_mark, IsLeastIndex, IsFirst, WritesEntry, KeepsEntries, KeepsPrepared, HasRoom, SwapsLeaf},
-  index_array.specs.{Place.{HasNoEntry}, Tree.{IsInLeaf}, Words.{IsSought}, declared.bits.Sought.{Sought}},
+  index_array.specs.Place.{with_mark, IsLeastIndex, IsFirst, WritesEntry, KeepsEntries, KeepsPrepared, HasRoom},
+  index_array.specs.{Place.{SwapsLeaf, HasNoEntry}, Tree.{IsInLeaf}, Words.{IsSought}, declared.bits.Sought.{Sought}},
 };
 
 mod bits;
@@ -53,7 +54,8 @@ pub enum IndexFault {
 /// is erased from. What stands in it is read in the contracts as a list of places, one for each index
 /// that the nodes cover: `entry_at` and `is_prepared` look one up.
 ///
-/// A call walks down at most four nodes and changes those on the way, a search looks at most at eight.
+/// A call walks down at most four nodes and changes those on the way, a search looks at most at eight, except
+/// [`IndexArray::first_unmarked`].
 /// A leaf takes 296 bytes; a node above it 64 bytes and, apart from it, 64 slots of 16.
 pub struct IndexArray {
     root: Root,

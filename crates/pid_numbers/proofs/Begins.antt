@@ -84,25 +84,25 @@ module _ (pid_max : ℕ) (ways ways' : ℕ → List ℕ) (at : ℕ → ℕ → O
 
   -- all that is known holds with it
   pub whole-begun : (i : ℕ) (at1 at' : ℕ → ℕ → Option (Entry ℕ)) (bound' : ℕ → Option ℕ) (names' : ℕ → Option Identifier) → IsPathTree ways' → fell parent ≡ false → fell' key ≡ false → ((s : ℕ) → s ≢ key → fell' s ≡ fell s)
-      → at1 key 1 ≡ given_to i → ((n : ℕ) → n ≢ 1 → at1 key n ≡ None) → ((s : ℕ) → s ≢ key → (n : ℕ) → at1 s n ≡ at s n)
-      → ((s n : ℕ) → at' s n ≡ touched (ways parent) around (λ _. given_to i) at1 s n) → ((s m : ℕ) → bound' s ≡ Some m → m ≡ pid_max)
+      → at1 key 1 ≡ given_to true i → ((n : ℕ) → n ≢ 1 → at1 key n ≡ None) → ((s : ℕ) → s ≢ key → (n : ℕ) → at1 s n ≡ at s n)
+      → ((s n : ℕ) → at' s n ≡ touched (ways parent) around (λ _. given_to true i) at1 s n) → ((s m : ℕ) → bound' s ≡ Some m → m ≡ pid_max)
       → ((j : ℕ) → j < length (ways parent) → (at (get_or (ways parent) j 0) (get_or around j 0) ≡ None) × (0 < get_or around j 0) × (get_or around j 0 < pid_max))
       → names i ≡ None → names' i ≡ Some (new_identifier key (1 ∷ around)) → ((j : ℕ) → j ≢ i → names' j ≡ names j) → IsConsistent pid_max ways' at' bound' names' fell'
   whole-begun i at1 at' bound' names' tree stands new same_fell first empty same_at given bounds drawn fresh named rest = record {
     numbering = ties.numbering-given pid_max ways' at at' bound' bound' names names' (numbering-added pid_max ways ways' at bound bound' names whole.numbering key parent was now others tree bounds) (λ s. refl)
-        i (new_identifier key (1 ∷ around)) rest fresh named (let l = ap length now in omega (arith, l, len)) (omega arith) refl free is;
+        i (new_identifier key (1 ∷ around)) rest true fresh named (let l = ap length now in omega (arith, l, len)) (omega arith) refl free is;
     fallen = fallen-added pid_max ways ways' at bound bound' names whole.numbering key parent was now others
-        fell fell' at' whole.fallen stands new same_fell (ties.leads-given (ways' key) (1 ∷ around) i at at' is);
+        fell fell' at' whole.fallen stands new same_fell (ties.leads-given true (ways' key) (1 ∷ around) i at at' is);
   }
     where
       unseen : (n : ℕ) → at key n ≡ None
       unseen n = sweeps.vacant-empty pid_max ways at bound names whole.numbering key n was
 
-      is : (s n : ℕ) → at' s n ≡ touched (ways' key) (1 ∷ around) (λ _. given_to i) at s n
+      is : (s n : ℕ) → at' s n ≡ touched (ways' key) (1 ∷ around) (λ _. given_to true i) at s n
       is s n =
           given s n
-          ∙ ties.touched-cons key 1 (ways parent) around (ties.beside-none key (ways parent) around away) (λ _. given_to i) at at1 first (λ m d. empty m d ∙ sym (unseen m)) same_at s n
-          ∙ ap (λ p. touched p (1 ∷ around) (λ _. given_to i) at s n) (sym now)
+          ∙ ties.touched-cons key 1 (ways parent) around (ties.beside-none key (ways parent) around away) (λ _. given_to true i) at at1 first (λ m d. empty m d ∙ sym (unseen m)) same_at s n
+          ∙ ap (λ p. touched p (1 ∷ around) (λ _. given_to true i) at s n) (sym now)
 
       free : (s n : ℕ) → beside s (ways' key) (1 ∷ around) ≡ Some n → (at s n ≡ None) × (0 < n) × (n < pid_max)
       free s n hit = by_place (ties.beside-some s n (key ∷ ways parent) (1 ∷ around) (ap (λ p. beside s p (1 ∷ around)) (sym now) ∙ hit))
@@ -151,8 +151,8 @@ module _ {pid_max : ℕ} {tree tree' : TreeOfSpaces} {ids ids1 ids2 : List (Ids 
 
   -- all that is known holds
   pub kept-begun : fell tree.nodes parent ≡ false → (i : ℕ) → ((s n : ℕ) → entry_on ids1 s n ≡ entry_on ids s n) → ((s : ℕ) → bound_on ids1 s ≡ bound_on ids s)
-      → first.pid_max ≡ pid_max → entry_at first.places 1 ≡ given_to i → ((n : ℕ) → n ≢ 1 → entry_at first.places n ≡ None)
-      → (ids3 : List (Ids ℕ)) (idents' : Table) → ((s n : ℕ) → entry_on ids3 s n ≡ touched (way tree.nodes parent) around (λ _. given_to i) (entry_on ids2) s n) → ((s : ℕ) → bound_on ids3 s ≡ bound_on ids2 s) → length ids3 ≡ length tree'.nodes
+      → first.pid_max ≡ pid_max → entry_at first.places 1 ≡ given_to true i → ((n : ℕ) → n ≢ 1 → entry_at first.places n ≡ None)
+      → (ids3 : List (Ids ℕ)) (idents' : Table) → ((s n : ℕ) → entry_on ids3 s n ≡ touched (way tree.nodes parent) around (λ _. given_to true i) (entry_on ids2) s n) → ((s : ℕ) → bound_on ids3 s ≡ bound_on ids2 s) → length ids3 ≡ length tree'.nodes
       → IsPathTree (way tree'.nodes) → ((s : ℕ) → IsSome (node_in tree'.nodes s) → 0 < length (way tree'.nodes s)) → AreListed (id_in tree'.nodes) tree'.order
       → IsPut idents idents' i (new_identifier key (1 ∷ around)) → IsNumberTable pid_max tree' ids3 idents'
   kept-begun stands i entries bounds good one none ids3 idents' given bounds3 count grown_tree some listed put = record {

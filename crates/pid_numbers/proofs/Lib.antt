@@ -9,6 +9,7 @@ pub mod Views
 pub mod Uses
 pub mod Climbs
 pub mod Drops
+pub mod Gone
 pub mod Begins
 pub mod Inwards
 pub mod Marks

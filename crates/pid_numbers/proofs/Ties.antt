@@ -1,6 +1,6 @@
 -- Look-ups that lead to names, over plain functions.
 use Rattle.std.proofs.Common.{◌≡◌, ◌≢◌, ◌⊎◌, inl, inr, ℕ, zero, suc, ◌+◌, ◌<◌, ◌≤◌, Bool, true, false, ◌||◌, List, [], ◌∷◌, length, map, get_or, drop, length-drop, Option, Some, None, is_none, refl, sym, ap, subst, ◌∙◌, arith, option_map, unwrap_or, find}
-use Rattle.pid_numbers.proofs.Words.{filter_map, slice_set, slice_index_or, option_map_or, cons_option, drop_more, get_or-drop, get_or_past}
+use Rattle.pid_numbers.proofs.Words.{filter_map, slice_set, option_map_or, cons_option, drop_more, get_or-drop, get_or_past}
 use Rattle.pid_numbers.proofs.Words.{cases_eq, cases_lt, eq-eqb, ne_eqb, or_right, none-some, same_Some, contains, beside, Entry, with_mark, Kind, Task, Group}
 use Rattle.pid_numbers.proofs.Words.{Session, Identifier, number_in, is_used, is_used_as, with_uses, IsPathTree, stepped, IsTied, IsNumbering, touched, leads}
 use Rattle.pid_numbers.proofs.Words.{given_to, mark_of, use_marks, AreMarked, HaveNumbersInRange, IsDistinct}
@@ -107,33 +107,26 @@ module _ (path numbers : List ℕ) (h : Option (Entry ℕ) → Option (Entry ℕ
 pub told : (u : Identifier) → is_used u ≡ (is_used_as Task (Some u) || (is_used_as Group (Some u) || is_used_as Session (Some u)))
 told u = grind arith
 
-marks-live : (u v : Identifier) → use_marks (Some u) ≡ use_marks (Some v) → is_used v ≡ true → is_used u ≡ true
-marks-live u v e live = told u ∙ ap (λ l. slice_index_or l 0 false || (slice_index_or l 1 false || slice_index_or l 2 false)) e ∙ sym (told v) ∙ live
-
-first-live : (u : Identifier) → use_marks (Some u) ≡ true ∷ false ∷ false ∷ [] → is_used u ≡ true
-first-live u e = told u ∙ ap (λ l. slice_index_or l 0 false || (slice_index_or l 1 false || slice_index_or l 2 false)) e
-
 -- what is said of each name, where one alone is another
 module _ (ways : ℕ → List ℕ) (see see' : ℕ → ℕ → Option ℕ) (names names' : ℕ → Option Identifier) (t : IsTied ways names see) (i : ℕ) (others : (j : ℕ) → j ≢ i → names' j ≡ names j) where
   each : (P : Identifier → Type 0) → ((u : Identifier) → names' i ≡ Some u → P u) → ((j : ℕ) (x : Identifier) → names j ≡ Some x → P x) → (j : ℕ) (x : Identifier) → names' j ≡ Some x → P x
   each P here there j x e = grind (arith, cases_eq)
 
-  tied-with : ((u : Identifier) → names' i ≡ Some u → (length u.numbers ≡ length (ways u.space)) × (0 < length u.numbers) × (is_used u ≡ true))
+  tied-with : ((u : Identifier) → names' i ≡ Some u → (length u.numbers ≡ length (ways u.space)) × (0 < length u.numbers))
       → ((s n j : ℕ) → see' s n ≡ Some j → number_in ways s (names' j) ≡ Some n) → ((s n j : ℕ) → number_in ways s (names' j) ≡ Some n → see' s n ≡ Some j) → IsTied ways names' see'
   tied-with here found kept = record {
     found = found;
     kept = kept;
     full = each (λ u. length u.numbers ≡ length (ways u.space)) (λ u e. (here u e).0) t.full;
     some = each (λ u. 0 < length u.numbers) (λ u e. (here u e).1) t.some;
-    live = each (λ u. is_used u ≡ true) (λ u e. (here u e).2) t.live;
   }
 
   module _ (u : Identifier) where
-    new_one : names' i ≡ Some u → (length u.numbers ≡ length (ways u.space)) × (0 < length u.numbers) × (is_used u ≡ true) → (x : Identifier) → names' i ≡ Some x → (length x.numbers ≡ length (ways x.space)) × (0 < length x.numbers) × (is_used x ≡ true)
+    new_one : names' i ≡ Some u → (length u.numbers ≡ length (ways u.space)) × (0 < length u.numbers) → (x : Identifier) → names' i ≡ Some x → (length x.numbers ≡ length (ways x.space)) × (0 < length x.numbers)
     new_one now fits x e = let same = same_Some u x (sym now ∙ e) in grind arith
 
     -- a new name
-    pub tied-given : names i ≡ None → names' i ≡ Some u → (length u.numbers ≡ length (ways u.space)) × (0 < length u.numbers) × (is_used u ≡ true)
+    pub tied-given : names i ≡ None → names' i ≡ Some u → (length u.numbers ≡ length (ways u.space)) × (0 < length u.numbers)
         → ((s n : ℕ) → beside s (ways u.space) u.numbers ≡ Some n → see s n ≡ None)
         → ((s n : ℕ) → beside s (ways u.space) u.numbers ≡ Some n → see' s n ≡ Some i) → ((s n : ℕ) → beside s (ways u.space) u.numbers ≢ Some n → see' s n ≡ see s n) → IsTied ways names' see'
     tied-given was now fits free hits misses = tied-with (new_one now fits)
@@ -147,7 +140,7 @@ module _ (ways : ℕ → List ℕ) (see see' : ℕ → ℕ → Option ℕ) (name
         (λ s n j e. let kept = t.kept s n j in let own = t.kept s n i in grind (arith, cases_eq, decide_some))
 
     -- a name whose uses change
-    pub tied-renamed : (v : Identifier) → names i ≡ Some v → names' i ≡ Some u → ((s : ℕ) → number_in ways s (Some u) ≡ number_in ways s (Some v)) → (length u.numbers ≡ length (ways u.space)) × (0 < length u.numbers) × (is_used u ≡ true)
+    pub tied-renamed : (v : Identifier) → names i ≡ Some v → names' i ≡ Some u → ((s : ℕ) → number_in ways s (Some u) ≡ number_in ways s (Some v)) → (length u.numbers ≡ length (ways u.space)) × (0 < length u.numbers)
         → ((s n : ℕ) → see' s n ≡ see s n) → IsTied ways names' see'
     tied-renamed v was now same_number fits sees = tied-with (new_one now fits) (λ s n j e. number s j ∙ t.found s n j (sym (sees s n) ∙ e)) (λ s n j e. sees s n ∙ t.kept s n j (sym (number s j) ∙ e))
       where
@@ -185,7 +178,6 @@ numbering-moved pid_max ways ways' at bound bound' names b tree bounds homes = r
     kept = λ s n i e. b.tied.kept s n i (sym (stays s i) ∙ e);
     full = λ i u e. b.tied.full i u e ∙ ap length (sym (homes i u e));
     some = b.tied.some;
-    live = b.tied.live;
   };
   range = b.range;
   marks = b.marks;
@@ -227,19 +219,19 @@ module _ (pid_max : ℕ) (ways : ℕ → List ℕ) (at at' : ℕ → ℕ → Opt
       misled s n miss = ap (option_map (λ e. e.value)) (misses s n miss)
 
     -- a new identifier
-    pub numbering-given : names i ≡ None → names' i ≡ Some u → length u.numbers ≡ length (ways u.space) → 0 < length u.numbers → use_marks (Some u) ≡ true ∷ false ∷ false ∷ []
+    pub numbering-given : (is_task : Bool) → names i ≡ None → names' i ≡ Some u → length u.numbers ≡ length (ways u.space) → 0 < length u.numbers → use_marks (Some u) ≡ is_task ∷ false ∷ false ∷ []
         → ((s n : ℕ) → beside s (ways u.space) u.numbers ≡ Some n → (at s n ≡ None) × (0 < n) × (n < pid_max))
-        → ((s n : ℕ) → at' s n ≡ touched (ways u.space) u.numbers (λ _. given_to i) at s n) → IsNumbering pid_max ways at' bound' names'
-    numbering-given was now len some marks free is =
+        → ((s n : ℕ) → at' s n ≡ touched (ways u.space) u.numbers (λ _. given_to is_task i) at s n) → IsNumbering pid_max ways at' bound' names'
+    numbering-given is_task was now len some marks free is =
         numbering-with
-        (tied-given ways (leads at) (leads at') names names' b.tied i others u was now (len, some, first-live u marks)
-        (λ s n hit. ap (option_map (λ e. e.value)) (free s n hit).0) (λ s n hit. ap (option_map (λ e. e.value)) (hits (λ _. given_to i) is s n hit)) (misled (λ _. given_to i) is))
-        (range-set pid_max (leads at) (leads at') b.range (ways u.space) u.numbers (λ s n j e hit. ((free s n hit).1, (free s n hit).2)) (misled (λ _. given_to i) is))
+        (tied-given ways (leads at) (leads at') names names' b.tied i others u was now (len, some)
+        (λ s n hit. ap (option_map (λ e. e.value)) (free s n hit).0) (λ s n hit. ap (option_map (λ e. e.value)) (hits (λ _. given_to is_task i) is s n hit)) (misled (λ _. given_to is_task i) is))
+        (range-set pid_max (leads at) (leads at') b.range (ways u.space) u.numbers (λ s n j e hit. ((free s n hit).1, (free s n hit).2)) (misled (λ _. given_to is_task i) is))
         (marks-set at at' names names' b.marks (ways u.space) u.numbers i others
-        (λ s n e hit stands. new_marks e (sym (hits (λ _. given_to i) is s n hit) ∙ stands)) (misses (λ _. given_to i) is) (λ s n miss h. none-some n (sym (ap (number_in ways s) was) ∙ b.tied.found s n i h)))
+        (λ s n e hit stands. new_marks e (sym (hits (λ _. given_to is_task i) is s n hit) ∙ stands)) (misses (λ _. given_to is_task i) is) (λ s n miss h. none-some n (sym (ap (number_in ways s) was) ∙ b.tied.found s n i h)))
       where
-        new_marks : (e : Entry ℕ) → given_to i ≡ Some e → e.marks ≡ use_marks (names' e.value)
-        new_marks e same = subst (λ (e : Entry ℕ). e.marks ≡ use_marks (names' e.value)) (same_Some (record { value = i; marks = true ∷ false ∷ false ∷ [] }) e same) (sym marks ∙ ap use_marks (sym now))
+        new_marks : (e : Entry ℕ) → given_to is_task i ≡ Some e → e.marks ≡ use_marks (names' e.value)
+        new_marks e same = subst (λ (e : Entry ℕ). e.marks ≡ use_marks (names' e.value)) (same_Some (record { value = i; marks = is_task ∷ false ∷ false ∷ [] }) e same) (sym marks ∙ ap use_marks (sym now))
 
     -- an identifier that goes
     pub numbering-released : names i ≡ Some u → names' i ≡ None → ((s n : ℕ) → at' s n ≡ touched (ways u.space) u.numbers (λ _. None) at s n) → IsNumbering pid_max ways at' bound' names'
@@ -251,14 +243,14 @@ module _ (pid_max : ℕ) (ways : ℕ → List ℕ) (at at' : ℕ → ℕ → Opt
         (λ s n e hit stands. absurd (none-some e (sym (hits (λ _. None) is s n hit) ∙ stands))) (misses (λ _. None) is) (λ s n miss h. miss (sym (ap (number_in ways s) was) ∙ b.tied.found s n i h)))
 
     -- an identifier whose uses change
-    pub numbering-used : (v : Identifier) → names i ≡ Some v → names' i ≡ Some u → u.space ≡ v.space → u.numbers ≡ v.numbers → is_used u ≡ true
+    pub numbering-used : (v : Identifier) → names i ≡ Some v → names' i ≡ Some u → u.space ≡ v.space → u.numbers ≡ v.numbers
         → ((s n : ℕ) → leads at' s n ≡ leads at s n) → ((s n : ℕ) → beside s (ways v.space) v.numbers ≢ Some n → at' s n ≡ at s n)
         → ((s n : ℕ) (e : Entry ℕ) → beside s (ways v.space) v.numbers ≡ Some n → at s n ≡ Some e → e.marks ≡ use_marks (Some v) → (e' : Entry ℕ) → at' s n ≡ Some e' → e'.marks ≡ use_marks (Some u)) → IsNumbering pid_max ways at' bound' names'
-    numbering-used v was now same_space same_numbers live same_leads misses marks =
+    numbering-used v was now same_space same_numbers same_leads misses marks =
         numbering-with
         (tied-renamed ways (leads at) (leads at') names names' b.tied i others u v was now
         (λ s. ap (λ p. beside s (ways p) u.numbers) same_space ∙ ap (beside s (ways v.space)) same_numbers)
-        (ap length same_numbers ∙ b.tied.full i v was ∙ ap (λ p. length (ways p)) (sym same_space), subst (λ (l : List ℕ). 0 < length l) (sym same_numbers) (b.tied.some i v was), live) same_leads)
+        (ap length same_numbers ∙ b.tied.full i v was ∙ ap (λ p. length (ways p)) (sym same_space), subst (λ (l : List ℕ). 0 < length l) (sym same_numbers) (b.tied.some i v was)) same_leads)
         (λ s n j e. b.range s n j (sym (same_leads s n) ∙ e))
         (marks-set at at' names names' b.marks (ways v.space) v.numbers i others
         (λ s n e' hit stands.
@@ -291,22 +283,21 @@ module _ (pid_max : ℕ) (ways : ℕ → List ℕ) (at at' : ℕ → ℕ → Opt
   pub numbering-counted : is_used_as kind (Some (with_uses kind count v)) ≡ is_used_as kind (Some v) → ((s n : ℕ) → at' s n ≡ at s n) → IsNumbering pid_max ways at' bound' names'
   numbering-counted still same =
       numbering-used pid_max ways at at' bound bound' names names' b same_bound i (with_uses kind count v) others v was now (path-kept kind count v).0 (path-kept kind count v).1
-      (marks-live (with_uses kind count v) v (marks-kept kind count v still) (b.tied.live i v was))
       (λ s n. ap (option_map (λ e. e.value)) (same s n)) (λ s n miss. same s n)
       (λ s n e hit stands old e' stands'. ap (λ (e : Entry ℕ). e.marks) (same_Some e' e (sym stands' ∙ same s n ∙ stands)) ∙ old ∙ sym (marks-kept kind count v still))
 
   -- a first or a last use
-  pub numbering-marked : (on : Bool) → is_used_as kind (Some (with_uses kind count v)) ≡ on → is_used (with_uses kind count v) ≡ true → ((s n : ℕ) → at' s n ≡ touched (ways v.space) v.numbers (with_mark (mark_of kind) on) at s n) → IsNumbering pid_max ways at' bound' names'
-  numbering-marked on turned live is =
-      numbering-used pid_max ways at at' bound bound' names names' b same_bound i (with_uses kind count v) others v was now (path-kept kind count v).0 (path-kept kind count v).1 live
+  pub numbering-marked : (on : Bool) → is_used_as kind (Some (with_uses kind count v)) ≡ on → ((s n : ℕ) → at' s n ≡ touched (ways v.space) v.numbers (with_mark (mark_of kind) on) at s n) → IsNumbering pid_max ways at' bound' names'
+  numbering-marked on turned is =
+      numbering-used pid_max ways at at' bound bound' names names' b same_bound i (with_uses kind count v) others v was now (path-kept kind count v).0 (path-kept kind count v).1
       (leads-marked (ways v.space) v.numbers (mark_of kind) on at at' is) (λ s n miss. is s n ∙ touched-miss (ways v.space) v.numbers (with_mark (mark_of kind) on) at s n miss)
       (λ s n e hit stands old e' stands'.
       let r : Some e' ≡ with_mark (mark_of kind) on (Some e) = sym stands' ∙ is s n ∙ touched-hit (ways v.space) v.numbers (with_mark (mark_of kind) on) at s n hit ∙ ap (with_mark (mark_of kind) on) stands in
       ap (λ o. option_map_or (λ y. y.marks) o e'.marks) r ∙ ap (λ l. slice_set l (mark_of kind) on) old ∙ marks-turned kind count v on turned)
 
 -- a number that was in use is so still once others are given
-pub leads-given : (path numbers : List ℕ) (key : ℕ) (at at' : ℕ → ℕ → Option (Entry ℕ)) → ((s n : ℕ) → at' s n ≡ touched path numbers (λ _. given_to key) at s n) → (s n i : ℕ) → leads at s n ≡ Some i → (j : ℕ) × (leads at' s n ≡ Some j)
-leads-given path numbers key at at' is s n i led = elim (decide_some (beside s path numbers) n) [
-  | inl hit ↦ (key, ap (option_map (λ e. e.value)) (is s n ∙ touched-hit path numbers (λ _. given_to key) at s n hit))
-  | inr miss ↦ (i, ap (option_map (λ e. e.value)) (is s n ∙ touched-miss path numbers (λ _. given_to key) at s n miss) ∙ led)
+pub leads-given : (is_task : Bool) (path numbers : List ℕ) (key : ℕ) (at at' : ℕ → ℕ → Option (Entry ℕ)) → ((s n : ℕ) → at' s n ≡ touched path numbers (λ _. given_to is_task key) at s n) → (s n i : ℕ) → leads at s n ≡ Some i → (j : ℕ) × (leads at' s n ≡ Some j)
+leads-given is_task path numbers key at at' is s n i led = elim (decide_some (beside s path numbers) n) [
+  | inl hit ↦ (key, ap (option_map (λ e. e.value)) (is s n ∙ touched-hit path numbers (λ _. given_to is_task key) at s n hit))
+  | inr miss ↦ (i, ap (option_map (λ e. e.value)) (is s n ∙ touched-miss path numbers (λ _. given_to is_task key) at s n miss) ∙ led)
 ]

@@ -1,6 +1,6 @@
 -- An identifier with another number of uses of a kind.
-use Rattle.pid_numbers.proofs.Words.{◌≡◌, ◌≢◌, ℕ, Bool, true, List, length, Some, IfSome, refl, sym, ap, subst, ◌∙◌, same_Some, Ids, with_mark, TreeOfSpaces, way, Kind}
-use Rattle.pid_numbers.proofs.Words.{Identifier, is_used, is_used_as, with_uses, entry_on, bound_on, touched, mark_of, IsNumberTable, Table, ident_at}
+use Rattle.pid_numbers.proofs.Words.{◌≡◌, ◌≢◌, ℕ, Bool, List, length, Some, IfSome, refl, sym, ap, subst, ◌∙◌, same_Some, Ids, with_mark, TreeOfSpaces, way, Kind}
+use Rattle.pid_numbers.proofs.Words.{Identifier, is_used_as, with_uses, entry_on, bound_on, touched, mark_of, IsNumberTable, Table, ident_at}
 use Rattle.pid_numbers.proofs.Ties as ties
 use Rattle.pid_numbers.proofs.Sweeps as sweeps
 use Rattle.pid_numbers.proofs.Views as views
@@ -27,13 +27,13 @@ module _ {pid_max : ℕ} {tree : TreeOfSpaces} {ids : List (Ids ℕ)} {old new :
       (λ s n i led. (i, led))
 
   -- and where it is one, once the marks are written along its path
-  pub marked : (on : Bool) (ids' : List (Ids ℕ)) → is_used_as kind (ident_at new i) ≡ on → ((u : Identifier) → ident_at new i ≡ Some u → is_used u ≡ true) → length ids' ≡ length ids → ((s : ℕ) → bound_on ids' s ≡ bound_on ids s)
+  pub marked : (on : Bool) (ids' : List (Ids ℕ)) → is_used_as kind (ident_at new i) ≡ on → length ids' ≡ length ids → ((s : ℕ) → bound_on ids' s ≡ bound_on ids s)
       → IfSome (ident_at new i) (λ u. (s m : ℕ) → entry_on ids' s m ≡ touched (way tree.nodes u.space) u.numbers (with_mark (mark_of kind) on) (entry_on ids) s m) → IsNumberTable pid_max tree ids' new
-  marked on ids' turned live count bound entries =
+  marked on ids' turned count bound entries =
       let is = views.marked-as kind r.count r.identifier on (way tree.nodes) (entry_on ids) (entry_on ids') (ident_at new i) entries r.now in
       sweeps.kept-with pid_max tree ids ids' old new k count
       (ties.numbering-marked pid_max (way tree.nodes) (entry_on ids) (entry_on ids') (bound_on ids) (bound_on ids') (ident_at old) (ident_at new) k.whole.numbering bound
-      i kind r.count r.identifier r.was r.now r.others on (ap (is_used_as kind) (sym r.now) ∙ turned) (live (with_uses kind r.count r.identifier) r.now) is)
+      i kind r.count r.identifier r.was r.now r.others on (ap (is_used_as kind) (sym r.now) ∙ turned) is)
       (λ s n i led. (i, ties.leads-marked (way tree.nodes r.identifier.space) r.identifier.numbers (mark_of kind) on (entry_on ids) (entry_on ids') is s n ∙ led))
 
   -- what a drop leaves of it has its path and its numbers

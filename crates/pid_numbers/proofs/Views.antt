@@ -1,10 +1,10 @@
 -- What a numbering shows of the slabs.
-use Rattle.std.proofs.Common.{rules, zero, suc, ◌∷◌, ◌≡◌, ◌≢◌, ℕ, ◌<◌, arith, if◌then◌else◌, Bool, true, false, List, [], length, map, get_or, Option, Some, None, IsSome, IfSome, not, ◌==◌, ◌+◌, subst, is_some, is_none, refl, sym, ap, ◌∙◌, option_map, option_and_then, unwrap_or, find}
+use Rattle.std.proofs.Common.{rules, zero, suc, ◌∷◌, ◌≡◌, ◌≢◌, ℕ, ◌<◌, arith, if◌then◌else◌, Bool, true, false, List, [], length, map, get_or, Option, Some, None, IsSome, IfSome, not, ◌==◌, ◌+◌, ◌||◌, subst, is_some, is_none, refl, sym, ap, ◌∙◌, option_map, option_and_then, unwrap_or, find}
 use Rattle.pid_numbers.proofs.Words.{cases_lt, cond_both, false_from_ne_true, ne_eqb, not_from_false, length-map, option_and_then_some, slice_get_within}
 use Rattle.pid_numbers.proofs.Words.{MatchOption, option_map_or, nat_lt, reverse, slice_get, cyclic_draw-same, Ids, planned, contains_indexes, Entry, IsLeastIndex, entry_at}
-use Rattle.pid_numbers.proofs.Words.{indexes, is_marked, with_mark, distinct-path, Node, TreeOfSpaces, fell, id_in, node_in, way, IsDistinct, draw-Some, contains}
-use Rattle.pid_numbers.proofs.Words.{cyclic_draw, beside, beside_from, Kind, Identifier, IsNextUsed, IsNumberUsedAs, Numbering, draw_in, has_fallen_at, id_at}
-use Rattle.pid_numbers.proofs.Words.{identifier_at, is_there, is_used, is_used_as, levels_of, more, moved, namespace_at, number_in, number_of, path_at, uses}
+use Rattle.pid_numbers.proofs.Words.{indexes, is_marked, is_unmarked, with_mark, distinct-path, Node, TreeOfSpaces, fell, id_in, node_in, way, IsDistinct, draw-Some, contains}
+use Rattle.pid_numbers.proofs.Words.{cyclic_draw, beside, beside_from, Kind, Identifier, IsNextUsed, IsNextThread, Numbering, draw_in, has_fallen_at, id_at}
+use Rattle.pid_numbers.proofs.Words.{identifier_at, is_there, is_used, is_used_as, is_thread, levels_of, more, moved, namespace_at, number_in, number_of, path_at, uses}
 use Rattle.pid_numbers.proofs.Words.{with_uses, taken_in, AreIn, ArePlanned, IsNumberTable, IsNumbering, bound_on, cursor_on, entry_on, leads, mark_of, use_marks}
 use Rattle.pid_numbers.proofs.Words.{namespace_of, numbering_of, plan_on, stepped, touched, namespaces_with, Table, identifier_of, ident_at}
 use Rattle.std.proofs.Math.ListN.{get_or-map}
@@ -193,43 +193,86 @@ used_some kind v e = grind (arith, told)
 get_mark : (kind : Kind) (o : Option Identifier) → get_or (use_marks o) (mark_of kind) false ≡ is_used_as kind o
 get_mark kind o = grind arith
 
-module _ (pid_max : ℕ) (tree : TreeOfSpaces) (ids : List (Ids ℕ)) (idents : Table) (b : IsNumbering pid_max (way tree.nodes) (entry_on ids) (bound_on ids) (ident_at idents)) (kind : Kind) (s : ℕ) where
+module _ (pid_max : ℕ) (tree : TreeOfSpaces) (ids : List (Ids ℕ)) (idents : Table) (b : IsNumbering pid_max (way tree.nodes) (entry_on ids) (bound_on ids) (ident_at idents)) where
   abbrev whole : Numbering
   whole = numbering_of pid_max tree ids idents
 
-  -- a number with the mark of a kind is used so
-  marked_used : (n : ℕ) → is_marked (mark_of kind) (entry_on ids s n) ≡ true → IsNumberUsedAs whole kind s n
-  marked_used n h = go (entry_on ids s n) refl h
-    where
-      go : (o : Option (Entry ℕ)) → entry_on ids s n ≡ o → is_marked (mark_of kind) o ≡ true → IsNumberUsedAs whole kind s n
-      go None is h = absurd (cc)
-      go (Some e) is h =
-          let led : leads (entry_on ids) s n ≡ Some e.value = ap (option_map (λ e. e.value)) is in
-          record {
-            key = e.value;
-            has = one_found pid_max tree ids idents b s n e.value led;
-            used = ap (is_used_as kind) (name_is pid_max tree ids idents e.value) ∙ sym (ap (λ l. get_or l (mark_of kind) false) (b.marks s n e is) ∙ get_mark kind (ident_at idents e.value)) ∙ h;
-          }
+  -- who stands at a number that an identifier has, and with which marks
+  record StandsAt (s n i : ℕ) : Type 0 where
+    entry : Entry ℕ
+    identifier : Identifier
+    at : entry_on ids s n ≡ Some entry
+    named : identifier_at whole i ≡ Some identifier
+    marks : entry.marks ≡ use_marks (Some identifier)
 
-  -- and the other way round
-  used_marked : (n : ℕ) → IsNumberUsedAs whole kind s n → is_marked (mark_of kind) (entry_on ids s n) ≡ true
-  used_marked n u =
-      let led : leads (entry_on ids) s n ≡ Some u.key = b.tied.kept s n u.key (sym (number_is pid_max tree ids idents u.key s) ∙ u.has) in
-      let r = at_key (entry_on ids s n) u.key led in
-      ap (is_marked (mark_of kind)) r.1 ∙ ap (λ l. get_or l (mark_of kind) false) (b.marks s n r.0 r.1) ∙ get_mark kind (ident_at idents r.0.value)
-      ∙ ap (λ k. is_used_as kind (ident_at idents k)) r.2 ∙ sym (ap (is_used_as kind) (name_is pid_max tree ids idents u.key)) ∙ u.used
+  stands : (s n i : ℕ) → number_of whole i s ≡ Some n → StandsAt s n i
+  stands s n i has =
+      let number : number_in (way tree.nodes) s (ident_at idents i) ≡ Some n = sym (number_is pid_max tree ids idents i s) ∙ has in
+      let u : (u : Identifier) × (ident_at idents i ≡ Some u) = option_and_then_some (λ u. beside s (way tree.nodes u.space) u.numbers) (ident_at idents i) n number (λ u is hit. (u, is)) in
+      let r = at_key (entry_on ids s n) i (b.tied.kept s n i number) in
+      record {
+        entry = r.0;
+        identifier = u.0;
+        at = r.1;
+        named = name_is pid_max tree ids idents i ∙ u.1;
+        marks = b.marks s n r.0 r.1 ∙ ap (λ k. use_marks (ident_at idents k)) r.2 ∙ ap use_marks u.1;
+      }
 
-  below_end : (n : ℕ) → IsNumberUsedAs whole kind s n → n < 16777216
-  below_end n u =
-      let led : leads (entry_on ids) s n ≡ Some u.key = b.tied.kept s n u.key (sym (number_is pid_max tree ids idents u.key s) ∙ u.has) in
-      let r = (b.range s n u.key led).1 in
+  below_end : (s n i : ℕ) → number_of whole i s ≡ Some n → n < 16777216
+  below_end s n i has =
+      let r = (b.range s n i (b.tied.kept s n i (sym (number_is pid_max tree ids idents i s) ∙ has))).1 in
       let g = b.good.1 in
       omega (arith, r, g)
 
+  -- a test of an entry that is one of its identifier
+  module _ (p : Option (Entry ℕ) → Bool) (q : Option Identifier → Bool) (none : p None ≡ false) (same : (e : Entry ℕ) (u : Identifier) → e.marks ≡ use_marks (Some u) → p (Some e) ≡ q (Some u)) (s : ℕ) where
+    tested : (n i : ℕ) → number_of whole i s ≡ Some n → p (entry_on ids s n) ≡ q (identifier_at whole i)
+    tested n i has = let z = stands s n i has in ap p z.at ∙ same z.entry z.identifier z.marks ∙ ap q (sym z.named)
+
+    passed : (n : ℕ) → p (entry_on ids s n) ≡ true → (i : ℕ) × (number_of whole i s ≡ Some n) × (q (identifier_at whole i) ≡ true)
+    passed n on = go (entry_on ids s n) refl on
+      where
+        go : (o : Option (Entry ℕ)) → entry_on ids s n ≡ o → p o ≡ true → (i : ℕ) × (number_of whole i s ≡ Some n) × (q (identifier_at whole i) ≡ true)
+        go None is h = absurd (cc none)
+        go (Some e) is h =
+            let has = one_found pid_max tree ids idents b s n e.value (ap (option_map (λ e. e.value)) is) in
+            (e.value, has, sym (tested n e.value has) ∙ ap p is ∙ h)
+
+  used_same : (kind : Kind) (e : Entry ℕ) (u : Identifier) → e.marks ≡ use_marks (Some u) → is_marked (mark_of kind) (Some e) ≡ is_used_as kind (Some u)
+  used_same kind e u marks = ap (λ l. get_or l (mark_of kind) false) marks ∙ get_mark kind (Some u)
+
   -- the least number with a mark is the least one that is used so
-  pub next_is : (from : ℕ) (r : Option ℕ) → IsLeastIndex (λ n. is_marked (mark_of kind) (entry_on ids s n)) from 16777216 r → IsNextUsed whole kind s from r
-  next_is from None none = λ m low u. (let e : true ≡ false = sym (used_marked m u) ∙ none m low (below_end m u) in cc)
-  next_is from (Some n) least = (least.0, marked_used n least.2, λ m low u. let on = used_marked m u in let off = least.3 m low in grind (arith, cases_lt))
+  pub next_is : (kind : Kind) (s from : ℕ) (r : Option ℕ) → IsLeastIndex (λ n. is_marked (mark_of kind) (entry_on ids s n)) from 16777216 r → IsNextUsed whole kind s from r
+  next_is kind s from None least = λ m low u.
+      let e : true ≡ false = sym u.used ∙ sym (tested (is_marked (mark_of kind)) (is_used_as kind) refl (used_same kind) s m u.key u.has) ∙ least m low (below_end s m u.key u.has) in
+      cc
+  next_is kind s from (Some n) least =
+      let r = passed (is_marked (mark_of kind)) (is_used_as kind) refl (used_same kind) s n least.2 in (
+        least.0,
+        record { key = r.0; has = r.1; used = r.2 },
+        λ m low u.
+            let on = tested (is_marked (mark_of kind)) (is_used_as kind) refl (used_same kind) s m u.key u.has ∙ u.used in
+            let off = least.3 m low in
+            grind (arith, cases_lt),
+      )
+
+  thread_same : (e : Entry ℕ) (u : Identifier) → e.marks ≡ use_marks (Some u) → is_unmarked (Some e) ≡ is_thread (Some u)
+  thread_same e u marks = ap (λ l. not (get_or l 0 false || (get_or l 1 false || get_or l 2 false))) marks ∙ ap not (sym (told u))
+
+  -- and the least one without marks is a thread's
+  pub next_thread-is : (s from : ℕ) (r : Option ℕ) → IsLeastIndex (λ n. is_unmarked (entry_on ids s n)) from 16777216 r → IsNextThread whole s from r
+  next_thread-is s from None least = λ m low u.
+      let e : true ≡ false = sym u.thread ∙ sym (tested is_unmarked is_thread refl thread_same s m u.key u.has) ∙ least m low (below_end s m u.key u.has) in
+      cc
+  next_thread-is s from (Some n) least =
+      let r = passed is_unmarked is_thread refl thread_same s n least.2 in (
+        least.0,
+        record { key = r.0; has = r.1; thread = r.2 },
+        λ m low u.
+            let on = tested is_unmarked is_thread refl thread_same s m u.key u.has ∙ u.thread in
+            let off = least.3 m low in
+            grind (arith, cases_lt),
+      )
 
 -- one whose cursor moves is seen so
 pub seen-moved : (path numbers : List ℕ) (s cursor : ℕ) (o : Option Node) → option_map (namespace_of (stepped path numbers s cursor)) o ≡ option_map (moved path numbers s) (option_map (namespace_of cursor) o)

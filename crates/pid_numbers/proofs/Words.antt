@@ -13,7 +13,7 @@ pub use Rattle.std.specs.Prelude.{MatchBool, filter_map, nat_lt, reverse, slice_
 pub use Rattle.cyclic_ids.proofs.Draws.{cyclic_draw-same}
 pub use Rattle.cyclic_ids.specs.Ids.{Ids, planned}
 pub use Rattle.index_array.proofs.Indexes.{contains_indexes}
-pub use Rattle.index_array.specs.Place.{Entry, IsLeastIndex, Place, entry_at, indexes, is_marked, is_prepared, with_mark}
+pub use Rattle.index_array.specs.Place.{Entry, IsLeastIndex, Place, entry_at, indexes, is_marked, is_prepared, is_unmarked, with_mark}
 pub use Rattle.ns_tree.proofs.Paths.{contains_at, distinct-path, everywhere, place_of}
 pub use Rattle.ns_tree.specs.Tree.{AreListed, IsDistinct, IsPath, IsPathTree, Node, TreeOfSpaces, fell, felled_within, grown, id_in, new_node, node_in, way}
 pub use Rattle.pid_numbers.specs.Vacancy.{AreVacant}
@@ -26,11 +26,11 @@ pub use Rattle.pid_types.specs.Names.{beside, beside_from, in_use, parent_space}
 unfoldable pub use Rattle.pid_types.specs.Names.{number, path_up, taken}
 pub use Rattle.pid_types.specs.declared.call.Kind.{Kind}
 pub use Rattle.pid_types.specs.declared.call.Kind.TheVariants.{Group, Session, Task}
-pub use Rattle.pid_numbers.specs.Numbering.{HasOwnTask, Identifier, IsNextUsed, IsNumberUsedAs, Namespace, Numbering, cursor_put, draw_in, fallen_within}
-pub use Rattle.pid_numbers.specs.Numbering.{has_fallen_at, id_at, identifier_at, is_there, is_used, is_used_as, less, levels_of, more, moved, left_of}
+pub use Rattle.pid_numbers.specs.Numbering.{HasOwnTask, Identifier, IsNextThread, IsNextUsed, Namespace, Numbering, cursor_put, draw_in, fallen_within}
+pub use Rattle.pid_numbers.specs.Numbering.{has_fallen_at, id_at, identifier_at, is_there, is_thread, is_used, is_used_as, less, levels_of, more, moved, left_of}
 pub use Rattle.pid_numbers.specs.Numbering.{namespace_at, new_identifier, number_in, number_of, path_at, swept_at, uses, with_uses}
 unfoldable pub use Rattle.pid_numbers.specs.Numbering.{taken_in}
-pub use Rattle.pid_numbers.specs.Slabs.{AreAround, AreFallen, AreIn, HaveNumbersInRange, AreMarked, ArePlanned, AreReady, IsNumberTable, IsNumbering, IsTied, IsConsistent}
+pub use Rattle.pid_numbers.specs.Slabs.{AreAround, AreFallen, AreFreed, AreIn, AreSwept, HaveNumbersInRange, AreMarked, ArePlanned, AreReady, IsNumberTable, IsNumbering, IsTied, IsConsistent}
 pub use Rattle.pid_numbers.specs.Slabs.{bound_on, cursor_on, dead_on, empty_on, entry_on, given_to, leads, mark_of, use_marks, namespace_of}
 pub use Rattle.pid_numbers.specs.Slabs.{numbering_of, plan_on, ready, stepped, touched, namespaces_with}
 pub use Rattle.pid_numbers.specs.Table.{ChangesPlace, IsTable, Table, get, identifier_of, ident_at, shown}

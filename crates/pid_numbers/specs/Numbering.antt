@@ -102,6 +102,10 @@ new_namespace id path = record { id = id; fallen = false; path = path; cursor = 
 abbrev pub new_identifier : ℕ → List ℕ → Identifier
 new_identifier space numbers = record { space = space; numbers = numbers; tasks = 1; groups = 0; sessions = 0 }
 
+-- a new identifier of a thread, which nothing uses
+abbrev pub thread_identifier : ℕ → List ℕ → Identifier
+thread_identifier space numbers = record (new_identifier space numbers) { tasks = 0 }
+
 -- the namespace with its cursor behind the number that it gave, if it is on the path
 abbrev pub moved : List ℕ → List ℕ → ℕ → Namespace → Namespace
 moved path numbers s t = record t { cursor = option_map_or (λ n. n + 1) (beside s path numbers) t.cursor }
@@ -143,6 +147,11 @@ pub record HasOwnTask (names : ℕ → Option Identifier) (s : ℕ) : Type 0 whe
 abbrev pub is_used : Identifier → Bool
 is_used u = not ((u.tasks == 0) && ((u.groups == 0) && (u.sessions == 0)))
 
+-- whether there is an identifier, and nothing uses it: then it is a thread's
+abbrev pub is_thread : Option Identifier → Bool
+is_thread None = false
+is_thread (Some u) = not (is_used u)
+
 -- what is left of an identifier
 abbrev pub left_of : Identifier → Option Identifier
 left_of u = if is_used u then Some u else None
@@ -159,6 +168,19 @@ IsNextUsed b kind s from result =
     MatchOption result
     ((m : ℕ) → from ≤ m → IsNumberUsedAs b kind s m → ⊥)
     (λ n. (from ≤ n) × IsNumberUsedAs b kind s n × ((m : ℕ) → from ≤ m → IsNumberUsedAs b kind s m → n ≤ m))
+
+-- a thread's identifier has the number in the namespace
+pub record IsNumberOfThread (b : Numbering) (s n : ℕ) : Type 0 where
+  pub key : ℕ
+  pub has : number_of b key s ≡ Some n
+  pub thread : is_thread (identifier_at b key) ≡ true
+
+-- the least number from one on that is a thread's in the namespace
+abbrev pub IsNextThread : Numbering → ℕ → ℕ → Option ℕ → Type 0
+IsNextThread b s from result =
+    MatchOption result
+    ((m : ℕ) → from ≤ m → IsNumberOfThread b s m → ⊥)
+    (λ n. (from ≤ n) × IsNumberOfThread b s n × ((m : ℕ) → from ≤ m → IsNumberOfThread b s m → n ≤ m))
 
 -- why no namespace can be made inside the one with the key: it has the deepest level, or else a namespace has no number to give
 abbrev pub IsPlanFault : Numbering → ℕ → PlanFault → Type 0

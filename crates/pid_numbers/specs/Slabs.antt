@@ -1,5 +1,6 @@
 -- The numbers of each namespace, at the namespace's key, and the identifiers, and what ties them.
-use Rattle.std.specs.Prelude.{◌≡◌, ℕ, suc, ◌+◌, ◌<◌, ◌==◌, ◌&&◌, Bool, true, false, List, [], ◌∷◌, length, map, Option, Some, IsSome, option_map, option_and_then, if◌then◌else◌, slice_get, slice_index_or, ◌≢◌}
+use Rattle.std.specs.Prelude.{◌≡◌, ℕ, suc, ◌+◌, ◌<◌, ◌==◌, ◌&&◌, Bool, true, false, List, [], ◌∷◌, length, map, Option, Some, None, IsSome, is_some, option_map, option_and_then, if◌then◌else◌, slice_get, slice_index_or, ◌≢◌}
+use Rattle.std.specs.List.{filter}
 use Rattle.std.specs.Option.{option_map_or, option_eq}
 use Rattle.index_array.specs.Place.{Entry, entry_at, is_prepared, indexes}
 use Rattle.cyclic_ids.specs.Ids.{Ids, planned}
@@ -11,7 +12,7 @@ use Rattle.pid_types.specs.declared.call.Kind.TheVariants.{Task, Group, Session}
 pub use Rattle.ns_tree.specs.Tree.{IsPath}
 use Rattle.ns_tree.specs.Tree.{Node, TreeOfSpaces, IsPathTree, AreListed, node_in, way, id_in, fell}
 use Rattle.pid_numbers.specs.Table.{Table, identifier_of, ident_at}
-use Rattle.pid_numbers.specs.Numbering.{Namespace, Identifier, Numbering, number_in, is_used_as, is_used}
+use Rattle.pid_numbers.specs.Numbering.{Namespace, Identifier, Numbering, number_in, is_used_as}
 
 -- a namespace of the tree, with the cursor of its numbers
 abbrev pub namespace_of : ℕ → Node → Namespace
@@ -81,8 +82,6 @@ pub record IsTied (ways : ℕ → List ℕ) (names : ℕ → Option Identifier) 
   pub kept : (s n i : ℕ) → number_in ways s (names i) ≡ Some n → see s n ≡ Some i
   pub full : (i : ℕ) (u : Identifier) → names i ≡ Some u → length u.numbers ≡ length (ways u.space)
   pub some : (i : ℕ) (u : Identifier) → names i ≡ Some u → 0 < length u.numbers
-  -- an identifier is there as long as something uses it
-  pub live : (i : ℕ) (u : Identifier) → names i ≡ Some u → is_used u ≡ true
 
 -- the mark of a kind
 abbrev pub mark_of : Kind → ℕ
@@ -94,7 +93,7 @@ mark_of Session = 2
 abbrev pub use_marks : Option Identifier → List Bool
 use_marks o = is_used_as Task o ∷ is_used_as Group o ∷ is_used_as Session o ∷ []
 
--- each number has the marks of its identifier's uses
+-- each number has the marks of its identifier's uses: one without marks is a thread's
 abbrev pub AreMarked : (ℕ → ℕ → Option (Entry ℕ)) → (ℕ → Option Identifier) → Type 0
 AreMarked at names = (s n : ℕ) (e : Entry ℕ) → at s n ≡ Some e → e.marks ≡ use_marks (names e.value)
 
@@ -140,6 +139,15 @@ empty_on ids s = option_map_or (λ t. length (indexes t.places) == 0) (slice_get
 abbrev pub dead_on : List (Option Node) → List (Ids ℕ) → ℕ → Bool
 dead_on nodes ids s = fell nodes s && empty_on ids s
 
+-- the dead ones are gone from the tree and the order, and the others are as they were
+pub record AreSwept (old new : TreeOfSpaces) (ids : List (Ids ℕ)) : Type 0 where
+  pub nodes : (s : ℕ) → node_in new.nodes s ≡ if dead_on old.nodes ids s then None else node_in old.nodes s
+  pub order : new.order ≡ filter (λ p. is_some (node_in new.nodes p.1)) old.order
+  pub count : length new.nodes ≡ length old.nodes
+  pub tree : IsPathTree (way new.nodes)
+  pub some : (s : ℕ) → IsSome (node_in new.nodes s) → 0 < length (way new.nodes s)
+  pub listed : AreListed (id_in new.nodes) new.order
+
 -- the dead ones are on a path, and all in one of them are dead
 pub record AreAround (nodes : List (Option Node)) (ids : List (Ids ℕ)) (path : List ℕ) : Type 0 where
   pub on : (s : ℕ) → dead_on nodes ids s ≡ true → contains path s ≡ true
@@ -150,13 +158,20 @@ pub record AreAround (nodes : List (Option Node)) (ids : List (Ids ℕ)) (path :
 abbrev pub touched : List ℕ → List ℕ → (Option (Entry ℕ) → Option (Entry ℕ)) → (ℕ → ℕ → Option (Entry ℕ)) → ℕ → ℕ → Option (Entry ℕ)
 touched path numbers change at s n = if option_eq ◌==◌ (beside s path numbers) (Some n) then change (at s n) else at s n
 
+-- the numbers along a path are free, and the others are as they were
+pub record AreFreed (old new : List (Ids ℕ)) (path numbers : List ℕ) : Type 0 where
+  pub entries : (s n : ℕ) → entry_on new s n ≡ touched path numbers (λ _. None) (entry_on old) s n
+  pub cursors : KeepsCursors old new
+  pub bound : KeepsBounds old new
+  pub count : length new ≡ length old
+
 -- the cursor behind the number that its namespace gave, if it is on the path
 abbrev pub stepped : List ℕ → List ℕ → ℕ → ℕ → ℕ
 stepped path numbers s cursor = option_map_or (λ n. n + 1) (beside s path numbers) cursor
 
--- what stands at a number that a task was given
-abbrev pub given_to : ℕ → Option (Entry ℕ)
-given_to key = Some (record { value = key; marks = true ∷ false ∷ false ∷ [] })
+-- what stands at a number that was given: the mark is that of a task, and a thread has none
+abbrev pub given_to : Bool → ℕ → Option (Entry ℕ)
+given_to is_task key = Some (record { value = key; marks = is_task ∷ false ∷ false ∷ [] })
 
 -- each namespace of the path has numbers
 abbrev pub AreIn : List (Ids ℕ) → List ℕ → Type 0

@@ -1,8 +1,9 @@
 //! Process identifiers: their numbers on all levels of nested namespaces, and their uses.
 //!
 //! An identifier has a number in its own namespace and one in each namespace around it, as a process has
-//! in `pid_namespaces(7)`. It is there as long as a task, a process group or a session uses it, and its
-//! numbers are free again only then (POSIX, "Process ID Reuse").
+//! in `pid_namespaces(7)`. A task's is there as long as a task, a process group or a session uses it, and its
+//! numbers are free again only then (POSIX, "Process ID Reuse"). One that nothing uses is a thread's beside the
+//! first of its process (`CLONE_THREAD` in `clone(2)`), and there until [`Numbers::free_thread`].
 //!
 //! Namespaces and identifiers have keys, which the calls that find them answer. A key of a namespace or
 //! an identifier that is gone may be given again.
@@ -16,9 +17,10 @@ ghost use Rattle.{
   id_slab.specs.Ids.{key_of, AreBelow, AreRising},
   ns_tree.specs.Tree.{AreInside},
   pid_numbers.specs.Numbering.{Identifier, is_there, id_at, namespace_at, identifier_at, number_of, path_at, draw_in},
-  pid_numbers.specs.Numbering.{moved, more, less, left_of, uses, is_used, is_used_as, swept_at, new_namespace},
-  pid_numbers.specs.Numbering.{new_identifier, levels_of, fallen_within, taken_in, has_fallen_at, cursor_put},
-  pid_numbers.specs.{Numbering.{HasOwnTask, IsNextUsed, IsPlanFault}, Restore.{MayFall, is_flagged, fallen_if}},
+  pid_numbers.specs.Numbering.{moved, more, less, left_of, uses, is_used_as, is_thread, swept_at, new_namespace},
+  pid_numbers.specs.Numbering.{new_identifier, thread_identifier, levels_of, fallen_within, taken_in, has_fallen_at},
+  pid_numbers.specs.Numbering.{cursor_put, HasOwnTask, IsNextUsed, IsNextThread, IsPlanFault},
+  pid_numbers.specs.{Restore.{MayFall, is_flagged, fallen_if}},
   pid_types.specs.{Bounds.{deepest_space}, Chains.{contains}, Settings.{HasGoodPidMax}},
 };
 
@@ -35,8 +37,8 @@ use id_slab::Iter;
 use idents::{Ident, Idents};
 use levels::LevelNumbers;
 use names::{
-    count_at, has_use, has_use_at, home_of, in_use_at, mark_numbers, number_at, write_levels,
-    write_numbers_inwards,
+    count_at, has_use, has_use_at, home_of, in_use_at, is_thread, mark_numbers, number_at,
+    write_levels, write_numbers_inwards,
 };
 pub use ns_tree::InnerSpaces;
 use ns_tree::SpaceTree;
@@ -46,8 +48,8 @@ use pid_types::plain::{DEEPEST_SPACE, LEVELS, Name};
 pub use plan::PlanFault;
 use restore::mark_all;
 use spaces::{
-    first_ids, give_path, look, look_in_root, next_at, plan_at, plan_path, prepare_path,
-    put_cursor, put_ids, release_path, sweep,
+    first_ids, free_numbers, give_path, look, look_in_root, next_at, next_unmarked_at, plan_at,
+    plan_path, prepare_path, put_cursor, put_ids,
 };
 use std::alloc::{AllocError, Global};
 use std::marker::Model;
@@ -142,17 +144,15 @@ impl Numbers {
 
     /// What is true of all identifiers and namespaces at any time; the call does nothing. No number of a
     /// namespace names two identifiers, each is above 0 and below `pid_max`, each identifier has one for
-    /// each namespace from its own to the root, which has the key 0 and at which every path ends, and something
-    /// uses it. What is in a
+    /// each namespace from its own to the root, which has the key 0 and at which every path ends. What is in a
     /// fallen namespace has fallen, and a number in it is in use. No two namespaces have the same id, and the order
-    /// has the ids of all of them, rising.
+    /// has the ids of all of them, rising. No law says that something uses an identifier: one may be a thread's.
     pub fn laws(&self)
         ensures distinct { (i j s n : ℕ) → number_of self.now i s ≡ Some n → number_of self.now j s ≡ Some n → i ≡ j }
         ensures range { (i s n : ℕ) → number_of self.now i s ≡ Some n → (0 < n) × (n < self.now.pid_max) }
         ensures full { (i : ℕ) (u : Identifier) → identifier_at self.now i ≡ Some u
             → (0 < length u.numbers) × (length u.numbers ≡ length (path_at self.now u.space)) }
         ensures good { HasGoodPidMax self.now.pid_max }
-        ensures used { (i : ℕ) (u : Identifier) → identifier_at self.now i ≡ Some u → is_used u ≡ true }
         ensures root { path_at self.now 0 ≡ 0 ∷ [] }
         ensures own { (s : ℕ) → 0 < length (path_at self.now s) → slice_index_or (path_at self.now s) 0 0 ≡ s }
         ensures around { (s j : ℕ) → j < length (path_at self.now s)
@@ -286,6 +286,13 @@ impl Numbers {
         has_use(&self.idents, ident, kind)
     }
 
+    /// Whether there is an identifier with the key, and it is a thread's: nothing uses it. It costs one read.
+    pub fn is_thread(&self, ident: IdentKey) -> bool
+        ensures { result ≡ is_thread (identifier_at self.now ident) }
+    {
+        is_thread(&self.idents, ident)
+    }
+
     /// How many uses of the kind the identifier has; 0 where it is not there.
     pub fn count(&self, ident: IdentKey, kind: Kind) -> u64
         ensures { result ≡ option_map_or (uses kind) (identifier_at self.now ident) 0 }
@@ -378,6 +385,15 @@ impl Numbers {
         next_at(&self.ids, space, kind, from)
     }
 
+    /// The least number at or above `from` that is a thread's in the namespace; none where that is not there. It costs
+    /// one search in the namespace's tree of numbers for each 64 numbers in use that it passes.
+    #[inline(always)]
+    pub fn next_thread(&self, space: SpaceKey, from: Pid) -> Option<Pid>
+        ensures { IsNextThread self.now space from result }
+    {
+        next_unmarked_at(&self.ids, space, from)
+    }
+
     /// Writes the numbers that the namespace and those around it give next over others, innermost first, or
     /// answers the first namespace that has none to give. It costs one or two searches for each level.
     #[inline(always)]
@@ -447,15 +463,62 @@ impl Numbers {
         ensures err { OnErr result (self.new ≡ self.old) }
         ensures pid_max { self.new.pid_max ≡ self.old.pid_max }
     {
+        self.draw_for(space, numbers, 1)
+    }
+
+    /// Gives the planned numbers to a new identifier of a thread, which nothing uses, and answers its key. The
+    /// error is want of memory, and then nothing has changed. It costs what [`draw`](Numbers::draw) does.
+    #[inline(always)]
+    pub fn draw_thread(&mut self, space: SpaceKey, numbers: &[Pid]) -> Result<IdentKey, AllocError>
+        requires there { IsSome (namespace_at self.old space) }
+        requires all { find (λ s. is_none (draw_in self.old s)) (path_at self.old space) ≡ None }
+        requires planned { numbers.now ≡ map (λ s. unwrap_or (draw_in self.old s) 0) (path_at self.old space) }
+        ensures key { IfOk result (λ i. i ≡ self.old.next) }
+        ensures fresh { IfOk result (λ i. identifier_at self.old i ≡ None) }
+        ensures named { IfOk result (λ i. identifier_at self.new i ≡ Some (thread_identifier space numbers.now)) }
+        ensures others { IfOk result (λ i. (j : ℕ) → j ≢ i → identifier_at self.new j ≡ identifier_at self.old j) }
+        ensures namespaces { OnOk result ((s : ℕ)
+            → namespace_at self.new s ≡ option_map (moved (path_at self.old space) numbers.now s)
+            (namespace_at self.old s)) }
+        ensures order { self.new.order ≡ self.old.order }
+        ensures err { OnErr result (self.new ≡ self.old) }
+        ensures pid_max { self.new.pid_max ≡ self.old.pid_max }
+    {
+        self.draw_for(space, numbers, 0)
+    }
+
+    /// Gives the planned numbers to a new identifier, which so many tasks use: none where it is a thread's.
+    #[inline(always)]
+    fn draw_for(
+        &mut self,
+        space: SpaceKey,
+        numbers: &[Pid],
+        tasks: u32,
+    ) -> Result<IdentKey, AllocError>
+        requires there { IsSome (namespace_at self.old space) }
+        requires all { find (λ s. is_none (draw_in self.old s)) (path_at self.old space) ≡ None }
+        requires planned { numbers.now ≡ map (λ s. unwrap_or (draw_in self.old s) 0) (path_at self.old space) }
+        ensures key { IfOk result (λ i. i ≡ self.old.next) }
+        ensures fresh { IfOk result (λ i. identifier_at self.old i ≡ None) }
+        ensures named { IfOk result (λ i. identifier_at self.new i
+            ≡ Some (record (new_identifier space numbers.now) { tasks = tasks })) }
+        ensures others { IfOk result (λ i. (j : ℕ) → j ≢ i → identifier_at self.new j ≡ identifier_at self.old j) }
+        ensures namespaces { OnOk result ((s : ℕ)
+            → namespace_at self.new s ≡ option_map (moved (path_at self.old space) numbers.now s)
+            (namespace_at self.old s)) }
+        ensures order { self.new.order ≡ self.old.order }
+        ensures err { OnErr result (self.new ≡ self.old) }
+        ensures pid_max { self.new.pid_max ≡ self.old.pid_max }
+    {
         let key = self.idents.make_room()?;
         let stored = LevelNumbers::from(self.alloc, numbers)?;
         let path = self.tree.path_up(space);
         prepare_path(&mut self.ids, path, numbers)?;
-        give_path(&mut self.ids, path, numbers, key);
+        give_path(&mut self.ids, path, numbers, key, tasks != 0);
         self.idents.insert_reserved(Ident {
             numbers: stored,
             space,
-            tasks: 1,
+            tasks,
             groups: 0,
             sessions: 0,
         });
@@ -539,7 +602,13 @@ impl Numbers {
         let key = self.tree.add(parent, id)?;
         self.tree.laws();
         put_ids(&mut self.ids, key, ids);
-        give_path(&mut self.ids, self.tree.path_up(parent), around, ident);
+        give_path(
+            &mut self.ids,
+            self.tree.path_up(parent),
+            around,
+            ident,
+            true,
+        );
         self.idents.insert_reserved(Ident {
             numbers: stored,
             space: key,
@@ -648,8 +717,32 @@ impl Numbers {
             return;
         }
         let gone = self.idents.remove(ident);
-        let path = self.tree.path_up(gone.space);
-        release_path(&mut self.ids, path, gone.numbers.as_slice());
-        sweep(&mut self.tree, &self.ids, gone.space);
+        free_numbers(
+            &mut self.tree,
+            &mut self.ids,
+            gone.space,
+            gone.numbers.as_slice(),
+        );
+    }
+
+    /// A thread's identifier goes, and its numbers are free, as with the last use in [`drop_use`](Numbers::drop_use).
+    /// It costs a step for each level.
+    #[inline(always)]
+    pub fn free_thread(&mut self, ident: IdentKey)
+        requires { is_thread (identifier_at self.old ident) ≡ true }
+        ensures here { identifier_at self.new ident ≡ None }
+        ensures others { (j : ℕ) → j ≢ ident → identifier_at self.new j ≡ identifier_at self.old j }
+        ensures namespaces { (s : ℕ) → namespace_at self.new s
+            ≡ swept_at (record self.old { names = self.new.names }) s }
+        ensures order { self.new.order ≡ filter (λ p. is_there self.new p.1) self.old.order }
+        ensures pid_max { self.new.pid_max ≡ self.old.pid_max }
+    {
+        let gone = self.idents.remove(ident);
+        free_numbers(
+            &mut self.tree,
+            &mut self.ids,
+            gone.space,
+            gone.numbers.as_slice(),
+        );
     }
 }

@@ -4,13 +4,14 @@ ghost use Rattle.std.specs.Prelude.{◌≡◌, ℕ, ◌+◌, ◌<◌, ◌≤◌,
 ghost use Rattle.std.specs.{Prelude.{slice_index_or, ◌++◌, drop}, Option.{option_map_or}};
 ghost use Rattle.{
   pid_types.specs.{Bounds.{deepest_space}, declared.call.Kind.{Kind}},
-  pid_numbers.specs.Numbering.{Identifier, uses, is_used, is_used_as},
-  pid_numbers.specs.{Slabs.{entry_on, touched, mark_of, AreIn, KeepsBounds, KeepsCursors}, Table.{ident_at}},
+  pid_numbers.specs.Numbering.{Identifier, uses, is_used, is_used_as, is_thread},
+  pid_numbers.specs.Slabs.{entry_on, touched, mark_of, AreIn, KeepsBounds, KeepsCursors},
+  pid_numbers.specs.{Table.{ident_at, identifier_of}},
   ns_tree.specs.{Tree.{way, IsDistinct}},
   index_array.specs.Place.{with_mark},
 };
 
-use crate::idents::{Idents, count};
+use crate::idents::{Ident, Idents, count};
 use crate::levels::{put_inwards, write_inwards};
 use crate::spaces::mark_path;
 use arrayvec::ArrayVec;
@@ -103,14 +104,32 @@ pub(crate) fn has_use_at(idents: &Idents, ident: IdentKey, kind: Kind) -> bool
     count(idents.at(ident), kind) != 0
 }
 
+/// Whether an identifier has a use.
+#[inline(always)]
+fn in_use(x: &Ident) -> bool
+    ensures { result ≡ is_used (identifier_of x.now) }
+{
+    !(x.tasks == 0 && x.groups == 0 && x.sessions == 0)
+}
+
+/// Whether there is an identifier, and nothing uses it.
+#[inline(always)]
+pub(crate) fn is_thread(idents: &Idents, ident: IdentKey) -> bool
+    ensures { result ≡ is_thread (ident_at idents.now ident) }
+{
+    match idents.get(ident) {
+        Some(x) => !in_use(x),
+        None => false,
+    }
+}
+
 /// Whether an identifier that is there has a use.
 #[inline(always)]
 pub(crate) fn in_use_at(idents: &Idents, ident: IdentKey) -> bool
     requires { IsSome (ident_at idents.now ident) }
     ensures { (u : Identifier) → ident_at idents.now ident ≡ Some u → result ≡ is_used u }
 {
-    let x = idents.at(ident);
-    !(x.tasks == 0 && x.groups == 0 && x.sessions == 0)
+    in_use(idents.at(ident))
 }
 
 /// Gives the numbers of an identifier the mark of a kind, or takes it away.

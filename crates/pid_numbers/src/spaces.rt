@@ -2,14 +2,15 @@
 
 ghost use Rattle.std.specs.Prelude.{if◌then◌else◌, vec_capacity, ◌≡◌, ◌≢◌, ℕ, ◌+◌, ◌<◌, ◌≤◌, length, map, Some, None};
 ghost use Rattle.std.specs.Prelude.{slice_get, IsSome, IfOk, IfErr, OnOk, find, is_none, is_some, unwrap_or, true};
-ghost use Rattle.std.specs.{Prelude.{false, ◌++◌}, List.{filter}};
+ghost use Rattle.std.specs.Prelude.{false, ◌++◌, List};
 ghost use Rattle.{
-  index_array.specs.Place.{index_count, entry_at, with_mark, is_marked, IsLeastIndex},
+  cyclic_ids.specs.Ids.{Ids},
+  index_array.specs.Place.{index_count, entry_at, with_mark, is_marked, is_unmarked, IsLeastIndex},
   pid_types.specs.{Bounds.{deepest_space}, Settings.{HasGoodPidMax}},
-  ns_tree.specs.{Tree.{node_in, way, id_in, grown, IsDistinct, IsPathTree, AreListed}},
+  ns_tree.specs.{Tree.{way, grown, IsDistinct}},
   pid_numbers.specs.Slabs.{entry_on, leads, plan_on, cursor_on, bound_on, ready, touched, stepped, given_to, mark_of},
   pid_numbers.specs.Slabs.{dead_on, AreAround, AreIn, ArePlanned, AreReady, KeepsPlans, KeepsNumbers, KeepsBounds},
-  pid_numbers.specs.Slabs.{KeepsCursors, KeepsOtherNumbers, KeepsOtherSpaces},
+  pid_numbers.specs.Slabs.{KeepsCursors, KeepsOtherNumbers, KeepsOtherSpaces, AreFreed, AreSwept},
 };
 
 use arrayvec::ArrayVec;
@@ -133,42 +134,49 @@ pub(crate) fn put_cursor(ids: &mut Vec<CyclicIds>, key: SpaceKey, cursor: Pid)
     ids[key as usize].set_cursor(cursor);
 }
 
-/// Gives the planned number to a task.
+/// Gives the planned number to a task, or to a thread.
 #[inline(always)]
-pub(crate) fn give_at(ids: &mut Vec<CyclicIds>, key: SpaceKey, n: Pid, value: IdentKey)
+pub(crate) fn give_at(
+    ids: &mut Vec<CyclicIds>,
+    key: SpaceKey,
+    n: Pid,
+    value: IdentKey,
+    is_task: bool,
+)
     requires planned { plan_on ids.old.items key ≡ Some n }
     requires ready { ready ids.old.items key n ≡ true }
-    ensures here { entry_on ids.new.items key n ≡ given_to value }
+    ensures here { entry_on ids.new.items key n ≡ given_to is_task value }
     ensures same { KeepsOtherNumbers ids.old.items ids.new.items key n }
     ensures others { KeepsOtherSpaces ids.old.items ids.new.items key }
     ensures bound { bound_on ids.new.items key ≡ bound_on ids.old.items key }
     ensures cursor { cursor_on ids.new.items key ≡ n + 1 }
     ensures count { length ids.new.items ≡ length ids.old.items }
 {
-    ids[key as usize].commit_marked(n, value, [true, false, false]);
+    ids[key as usize].commit_marked(n, value, [is_task, false, false]);
 }
 
-/// Gives the planned numbers along a path to a task.
+/// Gives the planned numbers along a path to a task, or to a thread.
 #[inline(always)]
 pub(crate) fn give_path(
     ids: &mut Vec<CyclicIds>,
     path: &[SpaceKey],
     numbers: &[Pid],
     value: IdentKey,
+    is_task: bool,
 )
     requires distinct { IsDistinct path.now }
     requires planned { ArePlanned ids.old.items path.now numbers.now }
     requires ready { AreReady ids.old.items path.now numbers.now }
     requires len { length numbers.now ≡ length path.now }
     ensures entries { (s n : ℕ) → entry_on ids.new.items s n
-        ≡ touched path.now numbers.now (λ _. given_to value) (entry_on ids.old.items) s n }
+        ≡ touched path.now numbers.now (λ _. given_to is_task value) (entry_on ids.old.items) s n }
     ensures cursors { (s : ℕ) → cursor_on ids.new.items s
         ≡ stepped path.now numbers.now s (cursor_on ids.old.items s) }
     ensures bound { KeepsBounds ids.old.items ids.new.items }
     ensures count { length ids.new.items ≡ length ids.old.items }
 {
     for k in 0..path.len() {
-        give_at(ids, path[k], numbers[k], value);
+        give_at(ids, path[k], numbers[k], value, is_task);
     }
 }
 
@@ -233,11 +241,7 @@ pub(crate) fn release_path(ids: &mut Vec<CyclicIds>, path: &[SpaceKey], numbers:
     requires there { AreIn ids.old.items path.now }
     requires distinct { IsDistinct path.now }
     requires len { length numbers.now ≡ length path.now }
-    ensures entries { (s n : ℕ) → entry_on ids.new.items s n
-        ≡ touched path.now numbers.now (λ _. None) (entry_on ids.old.items) s n }
-    ensures cursors { KeepsCursors ids.old.items ids.new.items }
-    ensures bound { KeepsBounds ids.old.items ids.new.items }
-    ensures count { length ids.new.items ≡ length ids.old.items }
+    ensures { AreFreed ids.old.items ids.new.items path.now numbers.now }
 {
     for k in 0..path.len() {
         release_at(ids, path[k], numbers[k]);
@@ -251,6 +255,17 @@ pub(crate) fn next_at(ids: &Vec<CyclicIds>, key: SpaceKey, kind: Kind, from: Pid
 {
     match ids.get(key as usize) {
         Some(t) => t.next_marked(from, mark(kind)),
+        None => None,
+    }
+}
+
+/// The least number from one on that is in use and has no mark.
+#[inline(always)]
+pub(crate) fn next_unmarked_at(ids: &Vec<CyclicIds>, key: SpaceKey, from: Pid) -> Option<Pid>
+    ensures { IsLeastIndex (λ n. is_unmarked (entry_on ids.now.items key n)) from index_count result }
+{
+    match ids.get(key as usize) {
+        Some(t) => t.next_unmarked(from),
         None => None,
     }
 }
@@ -273,13 +288,7 @@ fn is_dead(tree: &SpaceTree, ids: &Vec<CyclicIds>, key: SpaceKey) -> bool
 #[inline(always)]
 pub(crate) fn sweep(tree: &mut SpaceTree, ids: &Vec<CyclicIds>, space: SpaceKey)
     requires { AreAround tree.old.nodes ids.now.items (way tree.old.nodes space) }
-    ensures nodes { (s : ℕ) → node_in tree.new.nodes s
-        ≡ if dead_on tree.old.nodes ids.now.items s then None else node_in tree.old.nodes s }
-    ensures order { tree.new.order ≡ filter (λ p. is_some (node_in tree.new.nodes p.1)) tree.old.order }
-    ensures count { length tree.new.nodes ≡ length tree.old.nodes }
-    ensures tree { IsPathTree (way tree.new.nodes) }
-    ensures some { (s : ℕ) → IsSome (node_in tree.new.nodes s) → 0 < length (way tree.new.nodes s) }
-    ensures listed { AreListed (id_in tree.new.nodes) tree.new.order }
+    ensures { AreSwept tree.old tree.new ids.now.items }
 {
     tree.laws();
     let mut key = space;
@@ -293,6 +302,26 @@ pub(crate) fn sweep(tree: &mut SpaceTree, ids: &Vec<CyclicIds>, space: SpaceKey)
     }
 }
 
+/// Makes the numbers of an identifier that is gone free, and drops each namespace around it that is dead then.
+#[inline(always)]
+pub(crate) fn free_numbers(
+    tree: &mut SpaceTree,
+    ids: &mut Vec<CyclicIds>,
+    space: SpaceKey,
+    numbers: &[Pid],
+)
+    requires there { AreIn ids.old.items (way tree.old.nodes space) }
+    requires distinct { IsDistinct (way tree.old.nodes space) }
+    requires len { length numbers.now ≡ length (way tree.old.nodes space) }
+    requires around { (after : List (Ids ℕ)) → AreFreed ids.old.items after (way tree.old.nodes space) numbers.now
+        → AreAround tree.old.nodes after (way tree.old.nodes space) }
+    ensures freed { AreFreed ids.old.items ids.new.items (way tree.old.nodes space) numbers.now }
+    ensures swept { AreSwept tree.old tree.new ids.new.items }
+{
+    release_path(ids, tree.path_up(space), numbers);
+    sweep(tree, ids, space);
+}
+
 /// The numbers of a new namespace, of which the first is given to a task.
 pub(crate) fn first_ids(
     alloc: Global,
@@ -300,7 +329,7 @@ pub(crate) fn first_ids(
     value: IdentKey,
 ) -> Result<CyclicIds, AllocError>
     requires { HasGoodPidMax pid_max }
-    ensures here { IfOk result (λ ids. entry_at ids.places 1 ≡ given_to value) }
+    ensures here { IfOk result (λ ids. entry_at ids.places 1 ≡ given_to true value) }
     ensures others { IfOk result (λ ids. (n : ℕ) → n ≢ 1 → entry_at ids.places n ≡ None) }
     ensures pid_max { IfOk result (λ ids. ids.pid_max ≡ pid_max) }
     ensures cursor { IfOk result (λ ids. ids.cursor ≡ 2) }

@@ -20,6 +20,7 @@ pub mod Rest
 pub mod Births
 pub mod Seated
 pub mod Newborn
+pub mod NoThreads
 pub mod Regrouped
 pub mod Gone
 pub mod Housed

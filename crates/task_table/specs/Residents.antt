@@ -5,7 +5,7 @@ use Rattle.member_lists.specs.Owners.{owner_of, times}
 use Rattle.task_tree.specs.declared.Task.{Task}
 use Rattle.task_tree.specs.Tree.{TreeOfTasks, task_at, lives}
 use Rattle.pids_charge.specs.Charges.{Charges, stands}
-use Rattle.task_table.specs.Store.{Store, IsStore}
+use Rattle.task_table.specs.Store.{Store, IsStore, IsThreaded}
 
 -- the key of the control group that a live task is directly in; none of a zombie
 abbrev pub live_home : Option Task → Option ℕ
@@ -23,7 +23,8 @@ pub record AreHoused (tasks : List (Option Task)) (charges : Charges) (residents
   pub controls : (c : ℕ) → stands charges c ≡ true → c < length residents
   pub few : length residents ≤ 2 ^ 30
 
--- the four parts agree, and the lists of residents with them
+-- the parts agree, and the lists of residents with them
 pub record IsHousedStore (s : Store) (residents : List (Option ℕ)) : Type 0 where
   pub agree : IsStore s
+  pub threaded : IsThreaded s.numbering s.threads
   pub housed : AreHoused s.tree.tasks s.charges residents

@@ -1,21 +1,23 @@
--- What a contract sees of `Tasks`: four parts by key. A task has the key of its identifier.
+-- What a contract sees of `Tasks`: five parts by key. A task has the key of its identifier.
 use Rattle.std.specs.Prelude.{◌≡◌, ◌≢◌, ℕ, ◌+◌, ◌-◌, ◌==◌, ◌&&◌, not, Bool, true, false, List, count_by, Option, Some, None, option_map, is_some, if◌then◌else◌}
 use Rattle.std.specs.Option.{option_map_or}
 use Rattle.pid_types.specs.declared.call.Kind.{Kind}
 use Rattle.pid_types.specs.declared.call.Kind.TheVariants.{Task as AsTask, Group, Session}
-use Rattle.pid_numbers.specs.Numbering.{Numbering, Identifier, identifier_at, namespace_at, is_there, number_of, uses, swept_at}
+use Rattle.pid_numbers.specs.Numbering.{Numbering, Identifier, identifier_at, namespace_at, is_there, is_thread, is_used, number_of, uses, swept_at}
 use Rattle.std.specs.List.{filter}
 use Rattle.task_tree.specs.declared.Task.{Task}
 use Rattle.task_tree.specs.Tree.{TreeOfTasks, task_at, parent_of, rank_of, lives}
 use Rattle.groups_sessions.specs.Membership.{Membership, membership_at}
+use Rattle.process_threads.specs.Threads.{ThreadsByKey, thread_with, left_at}
 use Rattle.pids_charge.specs.Charges.{Charges, Home, home_at, ChangesHome, live_at, zombies_at, all_tasks}
 
--- the identifiers and namespaces, the tree of tasks, their groups and sessions, and the control groups
+-- the identifiers and namespaces, the tree of tasks, their groups and sessions, the control groups, and the threads beside first ones
 pub record Store : Type 0 where
   pub numbering : Numbering
   pub tree : TreeOfTasks
   pub members : List (Option Membership)
   pub charges : Charges
+  pub threads : ThreadsByKey
 
 -- how many uses of the kind the identifier has
 abbrev pub uses_at : Numbering → Kind → ℕ → ℕ
@@ -49,7 +51,7 @@ waits_in c t = option_map_or (λ t. (t.home == c) && not (lives t)) t false
 abbrev pub home_without : Task → Home → Home
 home_without t h = if lives t then record h { live = h.live - 1 } else record h { zombies = h.zombies - 1 }
 
--- the four parts agree
+-- the first four parts agree
 pub record IsStore (s : Store) : Type 0 where
   -- an identifier's uses are the task at its key, the members of the group and the tasks of the session
   pub tasks : (i : ℕ) → uses_at s.numbering AsTask i ≡ one_if (is_some (task_at s.tree i))
@@ -63,6 +65,20 @@ pub record IsStore (s : Store) : Type 0 where
   -- a child that has ended waits by its number in its parent's namespace
   pub ranks : (k p r : ℕ) → rank_of s.tree k ≡ Some (p, r) → (u : Identifier) → identifier_at s.numbering p ≡ Some u
       → number_of s.numbering k u.space ≡ Some r
+
+-- an identifier without a use is a thread's. No thread has begun yet, and no first one has left
+pub record IsThreaded (b : Numbering) (threads : ThreadsByKey) : Type 0 where
+  pub held : (i : ℕ) → is_thread (identifier_at b i) ≡ is_some (thread_with threads i)
+  pub none : (k : ℕ) → thread_with threads k ≡ None
+  pub stays : (p : ℕ) → left_at threads p ≡ false
+
+-- something uses each identifier: none is a thread's
+abbrev pub AreUsed : Numbering → Type 0
+AreUsed b = (i : ℕ) (u : Identifier) → identifier_at b i ≡ Some u → is_used u ≡ true
+
+-- no identifier has become a thread's
+abbrev pub MakesNoThread : Numbering → Numbering → Type 0
+MakesNoThread old new = (i : ℕ) → is_thread (identifier_at new i) ≡ true → is_thread (identifier_at old i) ≡ true
 
 -- the identifier without its uses
 abbrev pub bare : Identifier → Identifier
@@ -88,6 +104,7 @@ pub record IsSame (old new : Store) : Type 0 where
   pub parents : (k : ℕ) → parent_of new.tree k ≡ parent_of old.tree k
   pub ranks : (k : ℕ) → rank_of new.tree k ≡ rank_of old.tree k
   pub members : (k : ℕ) → membership_at new.members k ≡ membership_at old.members k
+  pub threads : new.threads ≡ old.threads
 
 -- what a new task with the key is in: what the one that it comes from is in, or else a group and a session of its own
 abbrev pub joins : List (Option Membership) → Option ℕ → ℕ → Option Membership
@@ -114,6 +131,7 @@ pub record Begins (old new : Store) (key : ℕ) (from : Option ℕ) (task : Task
   pub members : (k : ℕ) → k ≢ key → membership_at new.members k ≡ membership_at old.members k
   pub home : ChangesHome old.charges new.charges task.home
       (option_map (λ (h : Home). record h { live = h.live + 1 }) (home_at old.charges task.home))
+  pub threads : new.threads ≡ old.threads
 
 -- nothing but the part that is named has changed
 abbrev pub ChangesNumbering : Store → Store → Type 0

@@ -20,7 +20,8 @@ ghost use Rattle.{
   pid_numbers.specs.{Numbering.{Identifier, cursor_put}, Restore.{MayFall, is_flagged, fallen_if}},
   task_tree.specs.Tree.{task_at, parent_of, lives, handed},
   groups_sessions.specs.Membership.{Membership, membership_at, group_of, session_of, AreInSession, AreOthersInSession},
-  task_table.specs.Store.{IsStore, IsLess, IsSame, Begins, home_without, ChangesNumbering, ChangesCharges, ChangesTree},
+  task_table.specs.Store.{IsStore, AreUsed, IsLess, IsSame, Begins, home_without, ChangesNumbering},
+  task_table.specs.Store.{ChangesCharges, ChangesTree},
   task_table.specs.Residents.{AreResidents},
 };
 
@@ -40,6 +41,7 @@ use pid_types::keys::{ControlKey, IdentKey, Pid, SpaceKey, TaskKey};
 use pid_types::plain::{Ended, Life};
 use pid_types::reply::Refusal;
 use pids_charge::{ControlFault, Controls};
+use process_threads::Threads;
 use residents::no_residents;
 use room::room_for;
 use settle::settle;
@@ -58,6 +60,7 @@ pub struct Tasks {
     members: Members,
     controls: Controls,
     residents: MemberLists,
+    threads: Threads,
 }
 
 impl Model for Tasks {
@@ -65,13 +68,20 @@ impl Model for Tasks {
 
     ghost Value = { Store };
 
-    ghost view = { λ a. record { numbering = a.numbers; tree = a.tree; members = a.members; charges = a.controls } };
+    ghost view = { λ a. record {
+      numbering = a.numbers;
+      tree = a.tree;
+      members = a.members;
+      charges = a.controls;
+      threads = a.threads;
+    } };
 
     ghost invariant = { λ a. IsHousedStore (record {
       numbering = a.numbers;
       tree = a.tree;
       members = a.members;
       charges = a.controls;
+      threads = a.threads;
     }) a.residents };
 }
 
@@ -94,6 +104,7 @@ impl Tasks {
             members: Members::new(alloc),
             controls: Controls::new(alloc)?,
             residents: no_residents(alloc)?,
+            threads: Threads::new(alloc),
         })
     }
 
@@ -134,11 +145,18 @@ impl Tasks {
         self.residents.members(home)
     }
 
-    /// What is true at any time; the call does nothing. The four parts agree.
+    /// What is true at any time; the call does nothing. The first four parts agree.
     pub fn laws(&self)
         ensures { IsStore self.now }
     {
         let _ = &self.numbers;
+    }
+
+    /// What is true at any time; the call does nothing. No identifier is a thread's, as no thread has begun.
+    pub fn thread_laws(&self)
+        ensures { AreUsed self.now.numbering }
+    {
+        let _ = &self.threads;
     }
 
     /// A task becomes another one in the same place, with the same life and the same home.
@@ -186,6 +204,7 @@ impl Tasks {
             (option_map (λ (h : Home). record h { live = h.live - 1; zombies = h.zombies + 1 })
             (home_at self.old.charges task.home)) }
         ensures rest { (self.new.numbering ≡ self.old.numbering) × (self.new.members ≡ self.old.members) }
+        ensures threads { self.new.threads ≡ self.old.threads }
     {
         self.numbers.laws();
         self.tree.laws();
@@ -253,6 +272,7 @@ impl Tasks {
             (option_map (λ (m : Membership). record m { group = group }) (membership_at self.old.members key)) }
         ensures numbers { IsLess self.old.numbering self.new.numbering }
         ensures rest { (self.new.tree ≡ self.old.tree) × (self.new.charges ≡ self.old.charges) }
+        ensures threads { self.new.threads ≡ self.old.threads }
     {
         self.numbers.laws();
         self.tree.laws();
@@ -275,6 +295,7 @@ impl Tasks {
             (Some (record { group = group; session = session })) }
         ensures numbers { IsLess self.old.numbering self.new.numbering }
         ensures rest { (self.new.tree ≡ self.old.tree) × (self.new.charges ≡ self.old.charges) }
+        ensures threads { self.new.threads ≡ self.old.threads }
     {
         self.numbers.laws();
         self.tree.laws();
@@ -295,6 +316,7 @@ impl Tasks {
             (Some (record { group = key; session = key })) }
         ensures numbers { IsLess self.old.numbering self.new.numbering }
         ensures rest { (self.new.tree ≡ self.old.tree) × (self.new.charges ≡ self.old.charges) }
+        ensures threads { self.new.threads ≡ self.old.threads }
     {
         self.laws();
         self.move_to(key, key, key);
@@ -311,6 +333,7 @@ impl Tasks {
         ensures home { ChangesHome self.old.charges self.new.charges task.home
             (option_and_then (λ (h : Home). kept (home_without task h)) (home_at self.old.charges task.home)) }
         ensures numbers { IsLess self.old.numbering self.new.numbering }
+        ensures threads { self.new.threads ≡ self.old.threads }
     {
         self.numbers.laws();
         let group = self.members.group(key);

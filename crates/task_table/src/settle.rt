@@ -9,7 +9,7 @@ ghost use Rattle.{
   pids_charge.specs.Charges.{Home, home_at, stands, all_tasks, ChangesHome},
   task_tree.specs.Tree.{task_at, parent_of, lives},
   groups_sessions.specs.Membership.{Membership, membership_at, group_of},
-  task_table.specs.Store.{uses_at, one_if, is_kind, bare_at, joins, use_of},
+  task_table.specs.Store.{uses_at, one_if, is_kind, bare_at, joins, use_of, MakesNoThread},
 };
 
 use crate::uses::add_uses;
@@ -59,6 +59,7 @@ pub(crate) fn settle(
     ensures uses { (k : Kind) (i : ℕ) → uses_at numbers.new k i
         ≡ uses_at numbers.old k i + use_of (joins members.old from key) k i }
     ensures bare { (i : ℕ) → bare_at numbers.new i ≡ bare_at numbers.old i }
+    ensures no_thread { MakesNoThread numbers.old numbers.new }
     ensures namespaces { numbers.new.namespaces ≡ numbers.old.namespaces }
     ensures order { numbers.new.order ≡ numbers.old.order }
     ensures pid_max { numbers.new.pid_max ≡ numbers.old.pid_max }

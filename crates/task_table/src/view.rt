@@ -10,6 +10,7 @@ ghost use Rattle.{
   pid_numbers.specs.Numbering.{Identifier, id_at, identifier_at, number_of},
   task_tree.specs.{Tree.{task_at, lives}, declared.Task.{Task}},
   task_table.specs.{declared.view.Found.{Found}, View.{name_at, row_of, state_of}, Lawful.{HasLaws, IsLawful}},
+  task_table.specs.Store.{AreUsed},
   task_table.specs.Found.{HasOwnSpace, IsCalling},
 };
 
@@ -41,6 +42,7 @@ pub struct Caller {
 
 /// What is true of the identifiers and namespaces of a store; the call does nothing.
 fn number_laws(numbers: &Numbers)
+    requires { AreUsed numbers.now }
     ensures { HasLaws numbers.now }
 {
     numbers.laws();
@@ -50,6 +52,7 @@ fn number_laws(numbers: &Numbers)
 pub fn laws(store: &Tasks)
     ensures { IsLawful store.now }
 {
+    store.thread_laws();
     number_laws(store.numbers());
     store.laws();
     store.tree().laws();

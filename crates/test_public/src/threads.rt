@@ -1,7 +1,10 @@
-//! Threads of two processes, and a process whose first thread has left.
+//! Threads of two processes, and a process whose first thread has left; and the numbers of threads.
 
 ghost use Rattle.std.specs.Prelude.{◌≡◌};
 
+use pid_numbers::Numbers;
+use pid_types::call::Kind;
+use pid_types::keys::IdentKey;
 use process_threads::{Thread, Threads};
 use std::process::Abort;
 
@@ -91,4 +94,33 @@ fn marks_who_left(rt: HostRuntime) {
     );
     threads.clear_left(1);
     assert!(rt; !threads.has_left(1) && threads.is_empty());
+}
+
+/// Gives the next number of the root namespace to a thread, or to a task.
+fn draw(rt: &impl Abort, numbers: &mut Numbers, for_thread: bool) -> IdentKey {
+    assert!(rt; numbers.id(0).is_some());
+    let Ok(planned) = numbers.plan(0) else {
+        rt.abort()
+    };
+    let drawn = if for_thread {
+        numbers.draw_thread(0, planned.as_slice())
+    } else {
+        numbers.draw(0, planned.as_slice())
+    };
+    drawn.expect(rt, "no memory")
+}
+
+/// A thread's number is drawn after a task's. It is a thread's and no task's, and is free once that is gone.
+#[test]
+fn gives_numbers_to_threads(rt: HostRuntime) {
+    let mut numbers = Numbers::new(rt.alloc(), 301).expect(&rt, "no memory");
+    let task = draw(&rt, &mut numbers, false);
+    let thread = draw(&rt, &mut numbers, true);
+    assert!(&rt; [numbers.number_in(task, 0), numbers.number_in(thread, 0)] == [Some(1), Some(2)]);
+    assert!(&rt; !numbers.is_thread(task));
+    assert!(&rt; [numbers.next_thread(0, 0), numbers.next_thread(0, 3)] == [Some(2), None]);
+    assert!(&rt; numbers.next_used(0, Kind::Task, 2).is_none());
+    assert!(&rt; numbers.is_thread(thread));
+    numbers.free_thread(thread);
+    assert!(&rt; !numbers.is_thread(thread) && numbers.find(0, 2).is_none());
 }

@@ -1,5 +1,5 @@
 -- The leaf's block comes between what the tree has below it and what it has past it
-use Rattle.std.proofs.Common.{ap, arith, ◌≡◌, ◌*◌, ◌/◌, ◌<◌, Some}
+use Rattle.std.proofs.Common.{ap, arith, ◌*◌, ◌/◌, ◌<◌, Some}
 use Rattle.index_array.specs.Place.{index_count, entry_at, is_unmarked}
 use Rattle.cyclic_ids.specs.Ids.{places_beside}
 use Rattle.cyclic_ids.proofs.Beside.{entry_in_leaf, entry_in_tree}

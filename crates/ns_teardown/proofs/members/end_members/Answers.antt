@@ -1,5 +1,5 @@
 -- Each member below the number reached is as after the fall, each above it as before, but that its parent may have gone already
-use Rattle.std.proofs.Common.{◌≡◌, ◌<◌, arith}
+use Rattle.std.proofs.Common.{◌≡◌, ◌<◌, ◌≤◌, arith}
 use Rattle.task_table.proofs.Less as less
 use Rattle.ns_teardown.proofs.Falling as falling
 use Rattle.task_table.proofs.Changed as changed
@@ -51,10 +51,21 @@ loop-number-preserved c =
     }
 
 pub loop-number-smaller : goal.loop-number-smaller
-loop-number-smaller c = grind arith
+loop-number-smaller c =
+    let found = rw c.numbers.ensures at c.in-Some.ensures in
+    let here = rw c.numbers-in-Some.ensures at c.in-Some-find.ensures in
+    let above : c.loop-number.from ≤ c.in-Some.number = found.0 in
+    let in_range : c.in-Some.number < c.loop-number.store.numbering.pid_max = (c.laws-in-Some.ensures.numbering.range c.in-Some-find.key c.args.space c.in-Some.number here).1 in
+    let bound : c.loop-number.store.numbering.pid_max ≡ c.args.store.now.numbering.pid_max = c.loop-number.invariant.numbers.bound in
+    omega (arith, above, in_range, bound)
 
 pub overflow_add-from : goal.overflow_add-from
-overflow_add-from c = grind arith
+overflow_add-from c =
+    let here = rw c.numbers-in-Some.ensures at c.in-Some-find.ensures in
+    let in_range : c.in-Some.number < c.loop-number.store.numbering.pid_max = (c.laws-in-Some.ensures.numbering.range c.in-Some-find.key c.args.space c.in-Some.number here).1 in
+    let bound : c.loop-number.store.numbering.pid_max ≡ c.args.store.now.numbering.pid_max = c.loop-number.invariant.numbers.bound in
+    let good : c.args.store.now.numbering.pid_max ≤ 4194304 = c.requires.bound.1 in
+    omega (arith, in_range, bound, good)
 
 pub unreachable-requires : goal.unreachable-requires
 unreachable-requires c = grind arith

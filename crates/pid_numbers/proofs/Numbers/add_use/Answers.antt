@@ -51,7 +51,7 @@ mark_numbers-requires c =
 pub invariant_of-self-2 : goal.invariant_of-self-2
 invariant_of-self-2 c =
     let m = (goal.at.invariant_of-self-2 c).After-more_use in
-    uses.marked c.self.invariant (recounted m) true c.mark_numbers.new.ids.items (used m) (λ u is. views.used_some c.args.kind u (ap (is_used_as c.args.kind) (sym is) ∙ used m))
+    uses.marked c.self.invariant (recounted m) true c.mark_numbers.new.ids.items (used m)
     c.mark_numbers.ensures.count c.mark_numbers.ensures.bound c.mark_numbers.ensures.entries
 
 pub returns-clause-others : goal.returns-clause-others

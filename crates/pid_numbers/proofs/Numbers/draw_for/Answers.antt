@@ -1,22 +1,27 @@
 -- All memory is taken first, and taking it moves no plan: so the numbers planned are free still when the path is written
 use Rattle.std.proofs.lemmas.Grind.{common_steps}
-use Rattle.pid_numbers.proofs.Words.{rules, ◌≡◌, ◌∙◌, sym, ap, subst, refl, arith, ℕ, ◌<◌, length, get_or, None, option_map, node_in, way, IsDistinct, path_at}
+use Rattle.pid_numbers.proofs.Words.{rules, ◌≡◌, ◌∙◌, sym, ap, subst, refl, arith, ℕ, ◌<◌, ◌==◌, List, length, get_or, None, option_map, Identifier, node_in, way, IsDistinct, path_at}
 use Rattle.pid_numbers.proofs.Words.{moved, new_identifier, namespace_of, cursor_on, entry_on, bound_on, touched, stepped, given_to, ArePlanned, ident_at}
+use Rattle.std.proofs.Common.{not}
 use Rattle.pid_numbers.proofs.Views.{IsPlan}
 use Rattle.pid_numbers.proofs.Views as views
 use Rattle.pid_numbers.proofs.Seats as seats
 use Rattle.pid_numbers.proofs.Ties as ties
 use Rattle.pid_numbers.proofs.Sweeps as sweeps
-use Rattle.pid_numbers.proofs.Numbers.draw.Goals as goal
-use Rattle.pid_numbers.proofs.Numbers.draw.Goals.{After-insert_reserved, After-self}
+use Rattle.pid_numbers.proofs.Numbers.draw_for.Goals as goal
+use Rattle.pid_numbers.proofs.Numbers.draw_for.Goals.{After-insert_reserved, After-self}
+
+-- a new identifier that so many tasks use
+abbrev counted : ℕ → ℕ → List ℕ → Identifier
+counted tasks space numbers = record (new_identifier space numbers) { tasks = tasks }
 
 -- what the plan says
 plan : (c : After-self) → IsPlan c.self.inside.pid_max c.self.inside.tree.nodes c.self.inside.ids.items c.args.space c.args.numbers.now
 plan c = views.plan-of c.self.inside c.self.view_is c.self.invariant c.args.space c.args.numbers.now c.requires.all c.requires.planned
 
 -- and the identifier that is put
-put : (c : After-insert_reserved) → seats.IsPut c.self.inside.idents c.insert_reserved.new.self c.in_ok-key.key (new_identifier c.args.space c.args.numbers.now)
-put c = seats.put c.self.inside.idents c.make_room.new.self c.insert_reserved.new.self c.in_ok-key.key c.insert_reserved.result _ _ (ap (new_identifier c.args.space) c.in_ok-stored.ensures) c.in_ok-key.ensures.vacant c.in_ok-key.ensures.same (c.in_ok-key.ensures.key ∙ sym c.insert_reserved.ensures.key) c.insert_reserved.ensures.updates
+put : (c : After-insert_reserved) → seats.IsPut c.self.inside.idents c.insert_reserved.new.self c.in_ok-key.key (counted c.args.tasks c.args.space c.args.numbers.now)
+put c = seats.put c.self.inside.idents c.make_room.new.self c.insert_reserved.new.self c.in_ok-key.key c.insert_reserved.result _ _ (ap (counted c.args.tasks c.args.space) c.in_ok-stored.ensures) c.in_ok-key.ensures.vacant c.in_ok-key.ensures.same (c.in_ok-key.ensures.key ∙ sym c.insert_reserved.ensures.key) c.insert_reserved.ensures.updates
 
 pub from-requires : goal.from-requires
 from-requires c = let few = c.self.invariant.whole.numbering.tree.few c.args.space in let len = (plan (goal.at.from-requires c).After-self).len in omega (arith, few, len)
@@ -59,18 +64,18 @@ invariant_of-self-2 c =
     let prep = c.in_ok-prepare_path.ensures in
     let p = plan (goal.at.invariant_of-self-2 c).After-self in
     let x = put (goal.at.invariant_of-self-2 c).After-insert_reserved in
-    let is : (s n : ℕ) → entry_on new s n ≡ touched path numbers (λ _. given_to key) (entry_on ids) s n =
+    let is : (s n : ℕ) → entry_on new s n ≡ touched path numbers (λ _. given_to (not (c.args.tasks == 0)) key) (entry_on ids) s n =
     λ s n. c.give_path.ensures.entries s n
-    ∙ ap (λ p. touched p numbers (λ _. given_to key) (entry_on c.prepare_path.new.ids.items) s n) c.path_up-path.ensures
-    ∙ ap (λ f. touched path numbers (λ _. given_to key) f s n) (λ i s n. prep.entries s n i) in
+    ∙ ap (λ p. touched p numbers (λ _. given_to (not (c.args.tasks == 0)) key) (entry_on c.prepare_path.new.ids.items) s n) c.path_up-path.ensures
+    ∙ ap (λ f. touched path numbers (λ _. given_to (not (c.args.tasks == 0)) key) f s n) (λ i s n. prep.entries s n i) in
     sweeps.kept-with c.self.inside.pid_max c.self.inside.tree ids new c.self.inside.idents c.insert_reserved.new.self c.self.invariant (c.give_path.ensures.count ∙ prep.count)
     (ties.numbering-given c.self.inside.pid_max (way c.self.inside.tree.nodes) (entry_on ids) (entry_on new) (bound_on ids) (bound_on new) (ident_at c.self.inside.idents) (ident_at c.insert_reserved.new.self) c.self.invariant.whole.numbering (λ s. c.give_path.ensures.bound s ∙ prep.bound s)
-    key (new_identifier c.args.space numbers) x.others x.was x.now p.len
+    key (counted c.args.tasks c.args.space numbers) x.others (not (c.args.tasks == 0)) x.was x.now p.len
     (omega (arith, p.len, c.self.invariant.some c.args.space (views.there c.self.inside c.self.view_is c.args.space c.requires.there))) refl
     (λ s n hit.
     let r = ties.beside-some s n path numbers hit in
     subst (λ n. (entry_on ids s n ≡ None) × (0 < n) × (n < c.self.inside.pid_max)) r.3 (subst (λ s. (entry_on ids s (get_or numbers r.0 0) ≡ None) × (0 < get_or numbers r.0 0) × (get_or numbers r.0 0 < c.self.inside.pid_max)) r.2 (p.free r.0 r.1))) is)
-    (ties.leads-given path numbers key (entry_on ids) (entry_on new) is)
+    (ties.leads-given (not (c.args.tasks == 0)) path numbers key (entry_on ids) (entry_on new) is)
 
 pub returns-clause-others : goal.returns-clause-others
 returns-clause-others c j m =

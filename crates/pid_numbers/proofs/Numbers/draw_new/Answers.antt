@@ -84,7 +84,7 @@ invariant_of-self-2 c =
     let stands = sym (views.fell_is c.self.inside c.self.view_is c.args.parent) ∙ (standing (namespace_at c.args.self.now c.args.parent) c.requires.stands).1 in
     let g = begun (goal.at.invariant_of-self-2 c).After-put_ids in
     begins.kept-begun g stands c.in_ok-ident.ident prep.entries prep.bound first.pid_max first.here first.others c.give_path.new.ids.items c.insert_reserved.new.self
-    (λ s n. c.give_path.ensures.entries s n ∙ ap (λ p. touched p (take (length c.args.numbers.now - 1) (drop 1 c.args.numbers.now)) (λ _. given_to c.in_ok-ident.ident) (entry_on c.put_ids.new.all.items) s n) (c.path_up-2.ensures ∙ begins.path-same g)) c.give_path.ensures.bound
+    (λ s n. c.give_path.ensures.entries s n ∙ ap (λ p. touched p (take (length c.args.numbers.now - 1) (drop 1 c.args.numbers.now)) (λ _. given_to true c.in_ok-ident.ident) (entry_on c.put_ids.new.all.items) s n) (c.path_up-2.ensures ∙ begins.path-same g)) c.give_path.ensures.bound
     (c.give_path.ensures.count ∙ c.put_ids.ensures.count ∙ ap (λ n. grown n c.in_ok-key.key) (ap length c.in_ok-try_reserve.ensures.items ∙ prep.count ∙ c.self.invariant.count) ∙ sym add.count)
     c.laws.ensures.tree c.laws.ensures.some c.laws.ensures.listed
     (subst (λ l. seats.IsPut c.self.inside.idents c.insert_reserved.new.self c.in_ok-ident.ident (new_identifier c.in_ok-key.key l)) (begins.all-is c.args.numbers.now _ c.requires.planned) (put (goal.at.invariant_of-self-2 c).After-insert_reserved))

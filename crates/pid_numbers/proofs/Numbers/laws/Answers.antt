@@ -30,7 +30,6 @@ returns c =
       full = λ i u h.
           (let e = sym (views.identifier_is c.self.inside c.self.view_is i) ∙ h in (b.tied.some i u e, b.tied.full i u e ∙ ap length (sym (path u.space))));
       good = subst HasGoodPidMax (ap (λ z. z.pid_max) c.self.view_is) b.good;
-      used = λ i u h. b.tied.live i u (sym (views.identifier_is c.self.inside c.self.view_is i) ∙ h);
       root = path 0 ∙ b.tree.root;
       own = λ s some. ap (λ l. get_or l 0 0) (path s) ∙ paths.own-first ways b.tree s (subst (λ (l : List ℕ). 0 < length l) (path s) some);
       around = subst (λ (p : ℕ → List ℕ). (s j : ℕ) → j < length (p s) → p (get_or (p s) j 0) ≡ drop j (p s)) (λ i s. sym (path s) i) (λ s j lt. paths.at-path ways (ways s) (b.tree.paths s) j lt);

@@ -4,6 +4,7 @@ use Rattle.std.specs.Option.{option_map_or}
 use Rattle.pid_numbers.specs.Numbering.{Numbering, namespace_at, path_at}
 use Rattle.task_table.specs.Store.{Store}
 use Rattle.task_table.proofs.Rest as rest
+use Rattle.task_table.proofs.NoThreads as threads
 use Rattle.task_table.proofs.Tasks.add_space.Goals as goal
 
 -- a namespace with a path keeps it
@@ -16,10 +17,11 @@ kept old new (Ok key) fresh others same s some =
 pub invariant_of-self : goal.invariant_of-self
 invariant_of-self c = record {
   agree =
-      let old : Store = record { numbering = c.self.inside.numbers; tree = c.self.inside.tree; members = c.self.inside.members; charges = c.self.inside.controls } in
+      let old : Store = record { numbering = c.self.inside.numbers; tree = c.self.inside.tree; members = c.self.inside.members; charges = c.self.inside.controls; threads = c.self.inside.threads } in
       rest.renumbered-where old c.add_space.new.self c.self.invariant.agree c.add_space.ensures.names
       (λ i u is. kept c.self.inside.numbers c.add_space.new.self c.add_space.result c.add_space.ensures.fresh c.add_space.ensures.others c.add_space.ensures.err u.space
       (let f = c.laws.ensures.full i u is in let a = f.0 in let b = f.1 in omega (arith, a, b)));
+  threaded = threads.still c.self.inside.numbers c.add_space.new.self c.self.inside.threads c.self.invariant.threaded (threads.same c.self.inside.numbers c.add_space.new.self c.add_space.ensures.names);
   housed =
       c.self.invariant.housed;
 }

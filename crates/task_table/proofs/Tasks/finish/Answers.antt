@@ -31,7 +31,7 @@ pub invariant_of-self : goal.invariant_of-self
 invariant_of-self c = record {
   agree =
       let there = rw (← c.self.view_is) at c.requires.there in
-      let old : Store = record { numbering = c.self.inside.numbers; tree = c.self.inside.tree; members = c.self.inside.members; charges = c.self.inside.controls } in
+      let old : Store = record { numbering = c.self.inside.numbers; tree = c.self.inside.tree; members = c.self.inside.members; charges = c.self.inside.controls; threads = c.self.inside.threads } in
       let task : Task = record c.args.task { life = Zombie c.args.end } in
       changes.retasked old _ c.self.invariant.agree c.args.key c.args.task task there refl refl c.finish.ensures.tasks
       (homes.live-died c.self.inside.controls c.died.new.self c.args.task task c.died.ensures.home c.requires.live refl refl (changes.live_some old c.self.invariant.agree c.args.key c.args.task there c.requires.live))
@@ -39,6 +39,8 @@ invariant_of-self c = record {
       c.died.ensures.tasks
       (changes.ranks-finished c.self.inside.numbers c.self.inside.tree c.finish.new.self c.args.key c.rank_for-rank.result c.self.invariant.agree.ranks
       (let numbered = rw (← c.self.view_is) at c.rank_for-rank.ensures in numbered) c.finish.ensures.rank c.finish.ensures.others);
+  threaded =
+      c.self.invariant.threaded;
   housed =
       let there = rw (← c.self.view_is) at c.requires.there in
       housed.changed c.self.inside.controls c.died.new.self c.self.inside.tree.tasks c.finish.new.self.tasks c.self.inside.residents c.remove.new.self c.self.invariant.housed c.args.key (Some (record c.args.task { life = Zombie c.args.end })) c.finish.ensures.tasks

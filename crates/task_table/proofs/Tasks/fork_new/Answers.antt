@@ -15,6 +15,7 @@ use Rattle.task_table.proofs.Less as less
 use Rattle.task_table.proofs.Groups as groups
 use Rattle.task_table.proofs.Births as births
 use Rattle.task_table.proofs.Housed as housed
+use Rattle.task_table.proofs.NoThreads as threads
 use Rattle.task_table.proofs.Tasks.fork_new.Goals as goal
 
 some_same : {x y : ℕ} → Some x ≡ Some y → x ≡ y
@@ -44,7 +45,7 @@ returns-clause-order c = grind arith
 
 pub settle-requires-clause-named : goal.settle-requires-clause-named
 settle-requires-clause-named c k m is =
-    let old : Store = record { numbering = c.self.inside.numbers; tree = c.self.inside.tree; members = c.self.inside.members; charges = c.self.inside.controls } in
+    let old : Store = record { numbering = c.self.inside.numbers; tree = c.self.inside.tree; members = c.self.inside.members; charges = c.self.inside.controls; threads = c.self.inside.threads } in
     let group = less.used c.self.inside.numbers Group m.group (groups.group_used old c.self.invariant.agree k m is) in
     let session = less.used c.self.inside.numbers Session m.session (groups.session_used old c.self.invariant.agree k m is) in
     let there = births.drawn-there c.self.inside.numbers c.draw_new.new.self c.in_ok-space.field-0-0 c.in_ok-space.space c.args.numbers.now c.in_ok-space.ensures.fresh.0 c.in_ok-space.ensures.named c.in_ok-space.ensures.others in
@@ -58,7 +59,7 @@ settle-requires-clause-vacant c = grind arith
 
 pub settle-requires-clause-free : goal.settle-requires-clause-free
 settle-requires-clause-free c k e =
-    let old : Store = record { numbering = c.self.inside.numbers; tree = c.self.inside.tree; members = c.self.inside.members; charges = c.self.inside.controls } in
+    let old : Store = record { numbering = c.self.inside.numbers; tree = c.self.inside.tree; members = c.self.inside.members; charges = c.self.inside.controls; threads = c.self.inside.threads } in
     let key : c.in_ok-space.field-0-0 ≡ c.in_ok-key.key = c.in_ok-space.ensures.key ∙ ap (λ (s : Store). s.numbering.next) c.self.view_is ∙ sym c.in_ok-key.ensures.key in
     let m = groups.in_group c.self.inside.members k c.in_ok-key.key e in
     let used = less.used c.self.inside.numbers Group m.0.group (groups.group_used old c.self.invariant.agree k m.0 m.1) in
@@ -67,7 +68,7 @@ settle-requires-clause-free c k e =
 
 pub settle-requires-clause-few : goal.settle-requires-clause-few
 settle-requires-clause-few c k i =
-    let old : Store = record { numbering = c.self.inside.numbers; tree = c.self.inside.tree; members = c.self.inside.members; charges = c.self.inside.controls } in
+    let old : Store = record { numbering = c.self.inside.numbers; tree = c.self.inside.tree; members = c.self.inside.members; charges = c.self.inside.controls; threads = c.self.inside.threads } in
     births.drawn-few c.self.inside.numbers c.draw_new.new.self c.in_ok-space.field-0-0 c.in_ok-space.space c.args.numbers.now c.in_ok-space.ensures.fresh.0 c.in_ok-space.ensures.named c.in_ok-space.ensures.others
     (groups.few_uses old c.self.invariant.agree c.laws-4.ensures.few) k i
 
@@ -81,8 +82,8 @@ path_moved path numbers s (Some t) = refl
 pub invariant_of-self-2 : goal.invariant_of-self-2
 invariant_of-self-2 c = record {
   agree =
-      let old : Store = record { numbering = c.self.inside.numbers; tree = c.self.inside.tree; members = c.self.inside.members; charges = c.self.inside.controls } in
-      let new : Store = record { numbering = c.settle.new.numbers; tree = c.settle.new.tree; members = c.settle.new.members; charges = c.settle.new.controls } in
+      let old : Store = record { numbering = c.self.inside.numbers; tree = c.self.inside.tree; members = c.self.inside.members; charges = c.self.inside.controls; threads = c.self.inside.threads } in
+      let new : Store = record { numbering = c.settle.new.numbers; tree = c.settle.new.tree; members = c.settle.new.members; charges = c.settle.new.controls; threads = c.self.inside.threads } in
       let same = rw (← c.self.view_is) at c.make_room.ensures.same in
       let w = c.self.invariant.agree in
       let key : c.in_ok-space.field-0-0 ≡ c.in_ok-key.key = c.in_ok-space.ensures.key ∙ ap (λ (s : Store). s.numbering.next) c.self.view_is ∙ sym c.in_ok-key.ensures.key in
@@ -104,6 +105,10 @@ invariant_of-self-2 c = record {
       c.laws-2.ensures.full (λ k. ap (λ l. slice_index_or l k None) c.settle.ensures.ranks)
       (λ k p r e. births.ranked-there old w c.laws-3.ensures.waiting k p r e
       (births.parent_task c.args.self.now old same c.requires.parents)) w.ranks);
+  threaded =
+      threads.still c.self.inside.numbers c.settle.new.numbers c.self.inside.threads c.self.invariant.threaded
+      (threads.both c.self.inside.numbers c.draw_new.new.self c.settle.new.numbers
+      (threads.drawn c.self.inside.numbers c.draw_new.new.self c.in_ok-space.field-0-0 _ c.in_ok-space.ensures.named refl c.in_ok-space.ensures.others) c.settle.ensures.no_thread);
   housed =
       let same = rw (← c.self.view_is) at c.make_room.ensures.same in
       housed.changed c.self.inside.controls c.settle.new.controls c.self.inside.tree.tasks c.settle.new.tree.tasks c.self.inside.residents c.settle.new.residents c.self.invariant.housed c.in_ok-key.key (Some c.args.task) c.settle.ensures.tasks
@@ -121,7 +126,7 @@ settle-requires-clause-within c =
 
 pub settle-requires-clause-nowhere : goal.settle-requires-clause-nowhere
 settle-requires-clause-nowhere c =
-    let old : Store = record { numbering = c.self.inside.numbers; tree = c.self.inside.tree; members = c.self.inside.members; charges = c.self.inside.controls } in
+    let old : Store = record { numbering = c.self.inside.numbers; tree = c.self.inside.tree; members = c.self.inside.members; charges = c.self.inside.controls; threads = c.self.inside.threads } in
     let key : c.in_ok-space.field-0-0 ≡ c.in_ok-key.key = c.in_ok-space.ensures.key ∙ ap (λ (s : Store). s.numbering.next) c.self.view_is ∙ sym c.in_ok-key.ensures.key in
     let fresh : identifier_at c.self.inside.numbers c.in_ok-key.key ≡ None = subst (λ (k : ℕ). identifier_at c.self.inside.numbers k ≡ None) key c.in_ok-space.ensures.fresh.0 in
     c.self.invariant.housed.same c.in_ok-key.key ∙ ap live_home (births.no_task old c.self.invariant.agree c.in_ok-key.key fresh).0

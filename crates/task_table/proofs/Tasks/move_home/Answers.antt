@@ -19,13 +19,15 @@ invariant_of-self c = record {
   agree =
       let there = rw (← c.self.view_is) at c.requires.there in
       let stands = rw (← c.self.view_is) at c.requires.stands in
-      let old : Store = record { numbering = c.self.inside.numbers; tree = c.self.inside.tree; members = c.self.inside.members; charges = c.self.inside.controls } in
+      let old : Store = record { numbering = c.self.inside.numbers; tree = c.self.inside.tree; members = c.self.inside.members; charges = c.self.inside.controls; threads = c.self.inside.threads } in
       let task : Task = record c.args.task { home = c.args.to } in
       changes.retasked old _ c.self.invariant.agree c.args.key c.args.task task there refl refl c.update.ensures.tasks
       (homes.live-moved c.self.inside.controls c.transfer.new.self c.args.task c.args.to c.transfer.ensures.homes c.requires.live (changes.live_some old c.self.invariant.agree c.args.key c.args.task there c.requires.live) stands)
       (homes.zombies-moved c.self.inside.controls c.transfer.new.self c.args.task c.args.to c.transfer.ensures.homes c.requires.live)
       c.transfer.ensures.tasks
       (λ k p r e. c.self.invariant.agree.ranks k p r (sym (ap (λ l. slice_index_or l k None) c.update.ensures.ranks) ∙ e));
+  threaded =
+      c.self.invariant.threaded;
   housed =
       let there = rw (← c.self.view_is) at c.requires.there in
       housed.changed c.self.inside.controls c.transfer.new.self c.self.inside.tree.tasks c.update.new.self.tasks c.self.inside.residents c.move_to.new.self c.self.invariant.housed c.args.key (Some (record c.args.task { home = c.args.to })) c.update.ensures.tasks

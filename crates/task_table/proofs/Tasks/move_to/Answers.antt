@@ -7,11 +7,12 @@ use Rattle.groups_sessions.specs.Membership.{Membership, membership_at}
 use Rattle.task_table.specs.Store.{Store, IsLess, uses_at, one_if, is_kind}
 use Rattle.task_table.proofs.Less as less
 use Rattle.task_table.proofs.Groups as groups
+use Rattle.task_table.proofs.NoThreads as threads
 use Rattle.task_table.proofs.Tasks.move_to.Goals as goal
 
 pub take_uses-requires-clause-group : goal.take_uses-requires-clause-group
 take_uses-requires-clause-group c =
-    let old : Store = record { numbering = c.self.inside.numbers; tree = c.self.inside.tree; members = c.self.inside.members; charges = c.self.inside.controls } in
+    let old : Store = record { numbering = c.self.inside.numbers; tree = c.self.inside.tree; members = c.self.inside.members; charges = c.self.inside.controls; threads = c.self.inside.threads } in
     let there = rw (← c.self.view_is) at c.requires.there in
     let m = held (membership_at c.self.inside.members c.args.key) there in
     let mine = groups.group_used old c.self.invariant.agree c.args.key m.0 m.1 in
@@ -21,7 +22,7 @@ take_uses-requires-clause-group c =
 
 pub take_uses-requires-clause-session : goal.take_uses-requires-clause-session
 take_uses-requires-clause-session c =
-    let old : Store = record { numbering = c.self.inside.numbers; tree = c.self.inside.tree; members = c.self.inside.members; charges = c.self.inside.controls } in
+    let old : Store = record { numbering = c.self.inside.numbers; tree = c.self.inside.tree; members = c.self.inside.members; charges = c.self.inside.controls; threads = c.self.inside.threads } in
     let there = rw (← c.self.view_is) at c.requires.there in
     let m = held (membership_at c.self.inside.members c.args.key) there in
     let mine = groups.session_used old c.self.invariant.agree c.args.key m.0 m.1 in
@@ -32,7 +33,7 @@ take_uses-requires-clause-session c =
 pub invariant_of-self : goal.invariant_of-self
 invariant_of-self c = record {
   agree =
-      let old : Store = record { numbering = c.self.inside.numbers; tree = c.self.inside.tree; members = c.self.inside.members; charges = c.self.inside.controls } in
+      let old : Store = record { numbering = c.self.inside.numbers; tree = c.self.inside.tree; members = c.self.inside.members; charges = c.self.inside.controls; threads = c.self.inside.threads } in
       let there = rw (← c.self.view_is) at c.requires.there in
       let m = held (membership_at c.self.inside.members c.args.key) there in
       let n : Membership = record { group = c.args.group; session = c.args.session } in
@@ -48,6 +49,9 @@ invariant_of-self c = record {
       groups.rejoined old c.self.invariant.agree c.args.key m.0 n m.1 c.take_uses.new.numbers changed c.move_to.new.self c.move_to.ensures
       (less.ranks-less c.self.inside.numbers c.laws.ensures.full c.laws.ensures.own c.take_uses.new.numbers l c.self.inside.tree c.laws-2.ensures.waiting
       (groups.task_left old c.self.invariant.agree c.take_uses.new.numbers m.0 n changed) c.self.invariant.agree.ranks);
+  threaded =
+      threads.still c.self.inside.numbers c.take_uses.new.numbers c.self.inside.threads c.self.invariant.threaded
+      (threads.both c.self.inside.numbers c.add_uses.new.numbers c.take_uses.new.numbers c.add_uses.ensures.no_thread c.take_uses.ensures.no_thread);
   housed =
       c.self.invariant.housed;
 }

@@ -8,13 +8,14 @@ use Rattle.task_table.proofs.Groups as groups
 use Rattle.task_table.proofs.Changes as changes
 use Rattle.task_table.proofs.HomeCounts as homes
 use Rattle.task_table.proofs.Housed as housed
+use Rattle.task_table.proofs.NoThreads as threads
 use Rattle.task_table.proofs.Tasks.remove.Goals as goal
 
 pub invariant_of-self : goal.invariant_of-self
 invariant_of-self c = record {
   agree =
-      let old : Store = record { numbering = c.self.inside.numbers; tree = c.self.inside.tree; members = c.self.inside.members; charges = c.self.inside.controls } in
-      let new : Store = record { numbering = c.take_use.new.numbers; tree = c.remove.new.self; members = c.leave.new.self; charges = c.leave_home.new.controls } in
+      let old : Store = record { numbering = c.self.inside.numbers; tree = c.self.inside.tree; members = c.self.inside.members; charges = c.self.inside.controls; threads = c.self.inside.threads } in
+      let new : Store = record { numbering = c.take_use.new.numbers; tree = c.remove.new.self; members = c.leave.new.self; charges = c.leave_home.new.controls; threads = c.self.inside.threads } in
       let there = rw (← c.self.view_is) at c.requires in
       let w = c.self.invariant.agree in
       let m = held (membership_at c.self.inside.members c.args.key) (changes.member_there old w c.args.key c.args.task there) in
@@ -33,6 +34,9 @@ invariant_of-self c = record {
       (less.ranks-less c.self.inside.numbers c.laws.ensures.full c.laws.ensures.own c.take_use.new.numbers l c.remove.new.self c.laws-2.ensures.waiting
       (groups.others_left old w c.args.key m.0 c.take_use.new.numbers c.remove.new.self c.remove.ensures.tasks uses)
       (less.ranks-kept c.self.inside.numbers c.self.inside.tree c.remove.new.self c.args.key c.remove.ensures.rank c.remove.ensures.ranks w.ranks));
+  threaded =
+      threads.still c.self.inside.numbers c.take_use.new.numbers c.self.inside.threads c.self.invariant.threaded
+      (threads.both c.self.inside.numbers c.take_uses.new.numbers c.take_use.new.numbers c.take_uses.ensures.no_thread c.take_use.ensures.no_thread);
   housed =
       let there = rw (← c.self.view_is) at c.requires in
       housed.changed c.self.inside.controls c.leave_home.new.controls c.self.inside.tree.tasks c.remove.new.self.tasks c.self.inside.residents c.leave_home.new.residents c.self.invariant.housed c.args.key None c.remove.ensures.tasks
@@ -55,19 +59,19 @@ leave_home-requires-clause-key c =
 
 pub leave_home-requires-clause-live : goal.leave_home-requires-clause-live
 leave_home-requires-clause-live c =
-    let old : Store = record { numbering = c.self.inside.numbers; tree = c.self.inside.tree; members = c.self.inside.members; charges = c.self.inside.controls } in
+    let old : Store = record { numbering = c.self.inside.numbers; tree = c.self.inside.tree; members = c.self.inside.members; charges = c.self.inside.controls; threads = c.self.inside.threads } in
     let there = rw (← c.self.view_is) at c.requires in
     changes.live_some old c.self.invariant.agree c.args.key c.args.task there
 
 pub leave_home-requires-clause-ended : goal.leave_home-requires-clause-ended
 leave_home-requires-clause-ended c =
-    let old : Store = record { numbering = c.self.inside.numbers; tree = c.self.inside.tree; members = c.self.inside.members; charges = c.self.inside.controls } in
+    let old : Store = record { numbering = c.self.inside.numbers; tree = c.self.inside.tree; members = c.self.inside.members; charges = c.self.inside.controls; threads = c.self.inside.threads } in
     let there = rw (← c.self.view_is) at c.requires in
     changes.zombie_some old c.self.invariant.agree c.args.key c.args.task there
 
 pub take_uses-requires-clause-group : goal.take_uses-requires-clause-group
 take_uses-requires-clause-group c =
-    let old : Store = record { numbering = c.self.inside.numbers; tree = c.self.inside.tree; members = c.self.inside.members; charges = c.self.inside.controls } in
+    let old : Store = record { numbering = c.self.inside.numbers; tree = c.self.inside.tree; members = c.self.inside.members; charges = c.self.inside.controls; threads = c.self.inside.threads } in
     let there = rw (← c.self.view_is) at c.requires in
     let m = held (membership_at c.self.inside.members c.args.key) (changes.member_there old c.self.invariant.agree c.args.key c.args.task there) in
     rw (← groups.group_is c.self.inside.members c.args.key m.0 m.1 c.group-group.result c.group-group.ensures)
@@ -75,7 +79,7 @@ take_uses-requires-clause-group c =
 
 pub take_uses-requires-clause-session : goal.take_uses-requires-clause-session
 take_uses-requires-clause-session c =
-    let old : Store = record { numbering = c.self.inside.numbers; tree = c.self.inside.tree; members = c.self.inside.members; charges = c.self.inside.controls } in
+    let old : Store = record { numbering = c.self.inside.numbers; tree = c.self.inside.tree; members = c.self.inside.members; charges = c.self.inside.controls; threads = c.self.inside.threads } in
     let there = rw (← c.self.view_is) at c.requires in
     let m = held (membership_at c.self.inside.members c.args.key) (changes.member_there old c.self.invariant.agree c.args.key c.args.task there) in
     rw (← groups.session_is c.self.inside.members c.args.key m.0 m.1 c.session-session.result c.session-session.ensures)

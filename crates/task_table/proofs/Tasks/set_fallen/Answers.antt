@@ -4,6 +4,7 @@ use Rattle.pid_numbers.specs.Numbering.{Namespace, namespace_at}
 use Rattle.pid_numbers.specs.Restore.{is_flagged, fallen_if}
 use Rattle.task_table.specs.Store.{Store}
 use Rattle.task_table.proofs.Rest as rest
+use Rattle.task_table.proofs.NoThreads as threads
 use Rattle.task_table.proofs.Tasks.set_fallen.Goals as goal
 
 path_kept : (flag : Bool) (o : Option Namespace) → option_map_or (λ t. t.path) (option_map (fallen_if flag) o) [] ≡ option_map_or (λ t. t.path) o []
@@ -13,9 +14,10 @@ path_kept flag (Some t) = refl
 pub invariant_of-self : goal.invariant_of-self
 invariant_of-self c = record {
   agree =
-      let old : Store = record { numbering = c.self.inside.numbers; tree = c.self.inside.tree; members = c.self.inside.members; charges = c.self.inside.controls } in
+      let old : Store = record { numbering = c.self.inside.numbers; tree = c.self.inside.tree; members = c.self.inside.members; charges = c.self.inside.controls; threads = c.self.inside.threads } in
       rest.renumbered old c.set_fallen.new.self c.self.invariant.agree c.set_fallen.ensures.names
       (λ s. ap (λ o. option_map_or (λ t. t.path) o []) (c.set_fallen.ensures.namespaces s) ∙ path_kept (is_flagged c.args.flags.now s) (namespace_at c.self.inside.numbers s));
+  threaded = threads.still c.self.inside.numbers c.set_fallen.new.self c.self.inside.threads c.self.invariant.threaded (threads.same c.self.inside.numbers c.set_fallen.new.self c.set_fallen.ensures.names);
   housed =
       c.self.invariant.housed;
 }

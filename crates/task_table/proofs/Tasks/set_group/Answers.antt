@@ -9,16 +9,17 @@ use Rattle.task_table.specs.Store.{Store, IsLess, uses_at, one_if, is_kind}
 use Rattle.task_table.proofs.Less as less
 use Rattle.task_table.proofs.UseCounts as uses
 use Rattle.task_table.proofs.Groups as groups
+use Rattle.task_table.proofs.NoThreads as threads
 use Rattle.task_table.proofs.Tasks.set_group.Goals as goal
 
 pub add_use-requires-clause-few : goal.add_use-requires-clause-few
 add_use-requires-clause-few c =
-    let old : Store = record { numbering = c.self.inside.numbers; tree = c.self.inside.tree; members = c.self.inside.members; charges = c.self.inside.controls } in
+    let old : Store = record { numbering = c.self.inside.numbers; tree = c.self.inside.tree; members = c.self.inside.members; charges = c.self.inside.controls; threads = c.self.inside.threads } in
     uses.few-uses c.self.inside.numbers Group c.args.group (groups.few_groups old c.self.invariant.agree c.laws-3.ensures.few c.args.group)
 
 pub take_use-requires : goal.take_use-requires
 take_use-requires c =
-    let old : Store = record { numbering = c.self.inside.numbers; tree = c.self.inside.tree; members = c.self.inside.members; charges = c.self.inside.controls } in
+    let old : Store = record { numbering = c.self.inside.numbers; tree = c.self.inside.tree; members = c.self.inside.members; charges = c.self.inside.controls; threads = c.self.inside.threads } in
     let there = rw (← c.self.view_is) at c.requires.there in
     let group = rw (← c.self.view_is) at c.requires.group in
     let m = held (membership_at c.self.inside.members c.args.key) there in
@@ -30,7 +31,7 @@ take_use-requires c =
 pub invariant_of-self : goal.invariant_of-self
 invariant_of-self c = record {
   agree =
-      let old : Store = record { numbering = c.self.inside.numbers; tree = c.self.inside.tree; members = c.self.inside.members; charges = c.self.inside.controls } in
+      let old : Store = record { numbering = c.self.inside.numbers; tree = c.self.inside.tree; members = c.self.inside.members; charges = c.self.inside.controls; threads = c.self.inside.threads } in
       let there = rw (← c.self.view_is) at c.requires.there in
       let group = rw (← c.self.view_is) at c.requires.group in
       let m = held (membership_at c.self.inside.members c.args.key) there in
@@ -45,6 +46,11 @@ invariant_of-self c = record {
       c.join_group.new.self (c.join_group.ensures ∙ ap (λ o. slice_set c.self.inside.members c.args.key (option_map (λ (m : Membership). record m { group = c.args.group }) o)) m.1)
       (less.ranks-less c.self.inside.numbers c.laws.ensures.full c.laws.ensures.own c.take_use.new.numbers l c.self.inside.tree c.laws-2.ensures.waiting
       (groups.task_left old c.self.invariant.agree c.take_use.new.numbers m.0 n changed) c.self.invariant.agree.ranks);
+  threaded =
+      let group = rw (← c.self.view_is) at c.requires.group in
+      threads.still c.self.inside.numbers c.take_use.new.numbers c.self.inside.threads c.self.invariant.threaded
+      (threads.both c.self.inside.numbers c.add_use.new.self c.take_use.new.numbers
+      (threads.added c.self.inside.numbers c.add_use.new.self c.args.group Group c.add_use.ensures.others group c.add_use.ensures.here) c.take_use.ensures.no_thread);
   housed =
       c.self.invariant.housed;
 }

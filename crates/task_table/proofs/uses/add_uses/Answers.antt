@@ -1,6 +1,7 @@
 use Rattle.std.proofs.Common.{◌∙◌, ◌==◌}
 use Rattle.pid_types.specs.declared.call.Kind.TheVariants.{Group, Session}
 use Rattle.task_table.proofs.UseCounts as uses
+use Rattle.task_table.proofs.NoThreads as threads
 use Rattle.task_table.proofs.uses.add_uses.Goals as goal
 
 pub add_use-requires-clause-few : goal.add_use-requires-clause-few
@@ -18,3 +19,11 @@ returns-clause-bare c i =
     (uses.still_there c.args.numbers.now c.add_use.new.self (uses.bare-added c.args.numbers.now c.add_use.new.self c.args.group Group c.add_use.ensures.others c.requires.group c.add_use.ensures.here) c.args.session c.requires.session)
     c.add_use-2.ensures.here i
     ∙ uses.bare-added c.args.numbers.now c.add_use.new.self c.args.group Group c.add_use.ensures.others c.requires.group c.add_use.ensures.here i
+
+pub returns-clause-no_thread : goal.returns-clause-no_thread
+returns-clause-no_thread c =
+    threads.both c.args.numbers.now c.add_use.new.self c.add_use-2.new.self
+    (threads.added c.args.numbers.now c.add_use.new.self c.args.group Group c.add_use.ensures.others c.requires.group c.add_use.ensures.here)
+    (threads.added c.add_use.new.self c.add_use-2.new.self c.args.session Session c.add_use-2.ensures.others
+    (uses.still_there c.args.numbers.now c.add_use.new.self (uses.bare-added c.args.numbers.now c.add_use.new.self c.args.group Group c.add_use.ensures.others c.requires.group c.add_use.ensures.here) c.args.session c.requires.session)
+    c.add_use-2.ensures.here)
