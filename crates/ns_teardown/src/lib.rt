@@ -47,6 +47,7 @@ fn end_task(store: &mut Tasks, found: &Found, status: u8)
     ensures state { state_of store.new
         ≡ sweep (handed_over (state_of store.old) (row_of store.old found.now.key found.now.task) status) }
     ensures parents { HasParents store.new }
+    ensures threads { store.new.threads ≡ store.old.threads }
 {
     laws(store);
     teardown::exit(store, found, status);
@@ -63,6 +64,7 @@ fn end_init(store: &mut Tasks, init: &Found, status: u8)
     ensures state { state_of store.new
         ≡ sweep (fall_of (state_of store.old) (row_of store.old init.now.key init.now.task) status) }
     ensures parents { HasParents store.new }
+    ensures threads { store.new.threads ≡ store.old.threads }
 {
     laws(store);
     teardown::fall(store, init, status);
@@ -87,6 +89,7 @@ pub fn exit(store: &mut Tasks, caller: Pid, status: u8) -> ShortReply
     ensures state { state_of store.new ≡ (exit_of (state_of store.old) caller status).state }
     ensures reply { reply_of result ≡ (exit_of (state_of store.old) caller status).reply }
     ensures parents { HasParents store.new }
+    ensures threads { store.new.threads ≡ store.old.threads }
 {
     laws(store);
     let Some(found) = find_live(store, caller) else {

@@ -41,6 +41,7 @@ fn finish_member(store: &mut Tasks, is_init: bool, status: u8, key: TaskKey, tas
     ensures others { (k : ℕ) → k ≢ key → slot_at store.new k ≡ slot_at store.old k }
     ensures numbers { store.new.numbering ≡ store.old.numbering }
     ensures homes { KeepsHomes store.old.charges store.new.charges }
+    ensures threads { store.new.threads ≡ store.old.threads }
 {
     if matches!(task.life, Life::Zombie(_)) {
         return;
@@ -65,6 +66,7 @@ fn end_member(store: &mut Tasks, space: SpaceKey, init: TaskKey, status: u8, key
     ensures others { (k : ℕ) → k ≢ key → slot_at store.new k ≡ slot_at store.old k }
     ensures numbers { IsLess store.old.numbering store.new.numbering }
     ensures homes { KeepsHomes store.old.charges store.new.charges }
+    ensures threads { store.new.threads ≡ store.old.threads }
 {
     laws(store);
     let Some(task) = store.tree().task(key) else {
@@ -88,6 +90,7 @@ pub fn end_members(store: &mut Tasks, space: SpaceKey, init: TaskKey, status: u8
     ensures slots { (k : ℕ) → slot_at store.new k ≡ slot_after_fall store.old space init status k }
     ensures numbers { IsLess store.old.numbering store.new.numbering }
     ensures homes { KeepsHomes store.old.charges store.new.charges }
+    ensures threads { store.new.threads ≡ store.old.threads }
 {
     laws(store);
     let mut from = 0u32;

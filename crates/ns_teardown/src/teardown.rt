@@ -86,6 +86,7 @@ pub fn exit(store: &mut Tasks, found: &Found, status: u8)
         (home_at store.old.charges found.now.task.home)) }
     ensures rest { (store.new.numbering ≡ store.old.numbering) × (store.new.members ≡ store.old.members) }
     ensures tree { HasParents store.new }
+    ensures threads { store.new.threads ≡ store.old.threads }
 {
     laws(store);
     hand_children(store, found.key, found.space);
@@ -112,6 +113,7 @@ pub fn fall(store: &mut Tasks, init: &Found, status: u8)
         → (b : Numbering) × FallsWithin u.space store.old.numbering b × HasLaws b × IsLess b store.new.numbering }
     ensures homes { KeepsHomes store.old.charges store.new.charges }
     ensures tree { HasParents store.new }
+    ensures threads { store.new.threads ≡ store.old.threads }
 {
     laws(store);
     store.fell(init.space);

@@ -1,5 +1,5 @@
 -- Number 1 in the root or in its own namespace decides which of three ends it is: the test by key is the model's by name
-use Rattle.std.proofs.Common.{sym, ap, ◌∙◌}
+use Rattle.std.proofs.Common.{refl, sym, ap, ◌∙◌}
 use Rattle.pid_types.specs.Outcome.{Outcome}
 use Rattle.pid_numbers.specs.Numbering.{number_of}
 use Rattle.task_table.specs.View.{row_of, state_of}
@@ -12,7 +12,7 @@ returns-then-is_first c =
     let found = c.in-Some.found in
     let top = sym (first-in-root old c.laws.ensures found.key found.task c.in-Some.ensures.there.0) ∙ sym c.is_first.ensures ∙ c.if-is_first.true in
     let is = exit-refused (state_of old) c.args.caller c.args.status (row_of old found.key found.task) c.in-Some.ensures.row top in
-    record { state = sym (ap (λ (o : Outcome). o.state) is); reply = sym (ap (λ (o : Outcome). o.reply) is); parents = c.requires.parents }
+    record { state = sym (ap (λ (o : Outcome). o.state) is); reply = sym (ap (λ (o : Outcome). o.reply) is); parents = c.requires.parents; threads = refl }
 
 pub is_inner_init-requires : goal.is_inner_init-requires
 is_inner_init-requires c = sym c.is_first.ensures ∙ c.if-is_first.false
@@ -40,7 +40,7 @@ returns-then-is_inner_init c =
     let top = sym (first-in-root old c.laws.ensures found.key found.task there) ∙ sym c.is_first.ensures ∙ c.if-is_first.false in
     let own = first-in-own old c.laws.ensures found.key found.task there c.in-Some.found.space c.in-Some.ensures.id ∙ sym c.is_inner_init.ensures in
     let is = exit-falls (state_of old) c.args.caller c.args.status row c.in-Some.ensures.row top (own ∙ c.if-is_inner_init.true) in
-    record { state = c.end_init.ensures.state ∙ sym (ap (λ (o : Outcome). o.state) is); reply = sym (ap (λ (o : Outcome). o.reply) is); parents = c.end_init.ensures.parents }
+    record { state = c.end_init.ensures.state ∙ sym (ap (λ (o : Outcome). o.state) is); reply = sym (ap (λ (o : Outcome). o.reply) is); parents = c.end_init.ensures.parents; threads = c.end_init.ensures.threads }
 
 pub returns-else-is_inner_init : goal.returns-else-is_inner_init
 returns-else-is_inner_init c =
@@ -51,4 +51,4 @@ returns-else-is_inner_init c =
     let top = sym (first-in-root old c.laws.ensures found.key found.task there) ∙ sym c.is_first.ensures ∙ c.if-is_first.false in
     let own = first-in-own old c.laws.ensures found.key found.task there c.in-Some.found.space c.in-Some.ensures.id ∙ sym c.is_inner_init.ensures in
     let is = exit-ends (state_of old) c.args.caller c.args.status row c.in-Some.ensures.row top (own ∙ c.if-is_inner_init.false) in
-    record { state = c.end_task.ensures.state ∙ sym (ap (λ (o : Outcome). o.state) is); reply = sym (ap (λ (o : Outcome). o.reply) is); parents = c.end_task.ensures.parents }
+    record { state = c.end_task.ensures.state ∙ sym (ap (λ (o : Outcome). o.state) is); reply = sym (ap (λ (o : Outcome). o.reply) is); parents = c.end_task.ensures.parents; threads = c.end_task.ensures.threads }

@@ -1,5 +1,5 @@
 -- Each member below the number reached is as after the fall, each above it as before, but that its parent may have gone already
-use Rattle.std.proofs.Common.{◌≡◌, ◌<◌, ◌≤◌, arith}
+use Rattle.std.proofs.Common.{◌≡◌, ◌<◌, ◌≤◌, refl, ◌∙◌, arith}
 use Rattle.task_table.proofs.Less as less
 use Rattle.ns_teardown.proofs.Falling as falling
 use Rattle.task_table.proofs.Changed as changed
@@ -12,6 +12,7 @@ loop-number-init c =
       slots = falling.midway-first c.args.store.now c.laws.ensures c.requires.parents c.args.space c.args.init c.args.status;
       numbers = changed.IsLess-same c.args.store.now.numbering c.laws.ensures.numbering;
       homes = homes.KeepsHomes-refl c.args.store.now.charges;
+      threads = refl;
       below = omega arith;
     }
 
@@ -47,6 +48,7 @@ loop-number-preserved c =
       slots = falling.step c.args.store.now c.laws.ensures c.requires.parents c.args.space c.args.init c.args.status c.loop-number.store c.laws-in-Some.ensures.agree c.loop-number.invariant.numbers c.loop-number.from c.loop-number.invariant.slots c.in-Some-find.key c.in-Some.number found.0 here there found.2 c.end_member.new.store c.end_member.ensures.here c.end_member.ensures.others;
       numbers = less.IsLess-trans c.args.store.now.numbering c.laws.ensures.numbering.full c.laws.ensures.numbering.own c.loop-number.store.numbering c.end_member.new.store.numbering c.loop-number.invariant.numbers c.end_member.ensures.numbers;
       homes = homes.KeepsHomes-trans c.args.store.now.charges c.loop-number.store.charges c.end_member.new.store.charges c.loop-number.invariant.homes c.end_member.ensures.homes;
+      threads = c.end_member.ensures.threads ∙ c.loop-number.invariant.threads;
       below = omega (arith, in_range, bound);
     }
 

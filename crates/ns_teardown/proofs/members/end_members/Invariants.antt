@@ -8,6 +8,7 @@ invariant-loop-number l = record {
   slots : (k : ℕ) → slot_at l.store k ≡ slot_midway l.initial.store l.space l.init l.status l.from k;
   numbers : IsLess l.initial.store.numbering l.store.numbering;
   homes : KeepsHomes l.initial.store.charges l.store.charges;
+  threads : l.store.threads ≡ l.initial.store.threads;
   below : l.from ≤ l.initial.store.numbering.pid_max;
 }
 

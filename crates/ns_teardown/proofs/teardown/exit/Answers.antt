@@ -29,3 +29,6 @@ returns-clause-tree c =
     (λ k. ap (λ l. slice_index_or l k None) c.finish.ensures.parents ∙ h.2 k)
     (λ k some. ap is_some (ap (λ l. slice_index_or l k None) (c.finish.ensures.tasks ∙ ap (λ l. slice_set l c.args.found.now.key (Some task)) c.hand_children.ensures.tasks))
     ∙ parents.still-tasks c.args.store.now.tree.tasks c.args.found.now.key task k some)
+
+pub returns-clause-threads : goal.returns-clause-threads
+returns-clause-threads c = c.finish.ensures.threads ∙ ap (λ (s : Store). s.threads) c.hand_children.ensures.rest

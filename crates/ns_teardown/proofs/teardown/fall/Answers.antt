@@ -1,6 +1,7 @@
 -- Marking namespaces as fallen changes no number or parent: so how each member ends is told by the store before the fall
 use Rattle.std.proofs.Common.{◌≡◌, is_some, sym, ap, ◌∙◌, arith}
 use Rattle.pid_numbers.specs.Numbering.{path_at}
+use Rattle.task_table.specs.Store.{Store}
 use Rattle.ns_teardown.specs.Fall.{FallsWithin, slot_at, slot_after_fall}
 use Rattle.ns_teardown.proofs.Visible as visible
 use Rattle.ns_teardown.proofs.Marked as marked
@@ -53,3 +54,6 @@ returns-clause-init c =
     let first = (c.requires.top u.0 u.1).0 in
     returns-clause-slots c u.0 u.1 key
     ∙ marked.init-left c.args.store.now u.0.space key c.args.status first (marked.outer-parent c.args.store.now c.laws.ensures c.requires.good key u.0 u.1 first)
+
+pub returns-clause-threads : goal.returns-clause-threads
+returns-clause-threads c = c.end_members.ensures.threads ∙ ap (λ (s : Store). s.threads) c.fell.ensures.rest
