@@ -78,6 +78,7 @@ fn reap(store: &mut Tasks, child: TaskKey, task: Task) -> Ended
     ensures state { state_of store.new ≡ sweep (without_row (state_of store.old) (row_of store.old child task)) }
     ensures ended { result ≡ end_of (row_of store.old child task) }
     ensures parents { HasParents store.new }
+    ensures threads { store.new.threads ≡ store.old.threads }
 {
     laws(store);
     store.remove(child, task);
@@ -93,6 +94,7 @@ pub fn wait(store: &mut Tasks, caller: Pid, which: Which) -> ShortReply
     ensures state { state_of store.new ≡ (wait_of (state_of store.old) caller which).state }
     ensures reply { reply_of result ≡ (wait_of (state_of store.old) caller which).reply }
     ensures parents { HasParents store.new }
+    ensures threads { store.new.threads ≡ store.old.threads }
 {
     let Some(found) = find_live(store, caller) else {
         return ShortReply::Refused(Refusal::NoCaller);

@@ -19,4 +19,5 @@ returns c =
       state = sym (reaped old new c.laws.ensures c.laws-2.ensures c.requires.whole c.args.child c.args.task c.requires.there c.requires.ended g);
       ended = search rules;
       parents = parents-left old new c.laws.ensures c.laws-2.ensures c.requires.whole c.args.child c.args.task c.requires.there c.requires.ended g;
+      threads = c.remove.ensures.threads;
     }
