@@ -30,6 +30,7 @@ pub fn make_control(store: &mut Tasks, stamp: u64, parent: u64) -> Result<ShortR
     ensures reply { IfOk result (λ reply. reply_of reply ≡ (make_control_of (state_of store.old) stamp parent).reply) }
     ensures err { OnErr result (state_of store.new ≡ state_of store.old) }
     ensures parents { HasParents store.new }
+    ensures threads { store.new.threads ≡ store.old.threads }
 {
     laws(store);
     let Some(above) = store.controls().find(parent) else {
@@ -56,6 +57,7 @@ pub fn remove_control(store: &mut Tasks, id: u64) -> ShortReply
     ensures state { state_of store.new ≡ (remove_control_of (state_of store.old) id).state }
     ensures reply { reply_of result ≡ (remove_control_of (state_of store.old) id).reply }
     ensures parents { HasParents store.new }
+    ensures threads { store.new.threads ≡ store.old.threads }
 {
     laws(store);
     let Some(key) = store.controls().find(id) else {
@@ -80,6 +82,7 @@ pub fn set_limit(store: &mut Tasks, id: u64, limit: Option<u32>) -> ShortReply
     ensures state { state_of store.new ≡ (set_limit_of (state_of store.old) id limit).state }
     ensures reply { reply_of result ≡ (set_limit_of (state_of store.old) id limit).reply }
     ensures parents { HasParents store.new }
+    ensures threads { store.new.threads ≡ store.old.threads }
 {
     laws(store);
     let Some(key) = store.controls().find(id) else {

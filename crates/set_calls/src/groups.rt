@@ -117,6 +117,7 @@ pub fn set_pgid(store: &mut Tasks, caller: Pid, pid: i32, pgid: i32) -> ShortRep
     ensures state { state_of store.new ≡ (set_pgid_of (state_of store.old) caller pid pgid).state }
     ensures reply { reply_of result ≡ (set_pgid_of (state_of store.old) caller pid pgid).reply }
     ensures parents { HasParents store.new }
+    ensures threads { store.new.threads ≡ store.old.threads }
 {
     laws(store);
     match choose(store, caller, pid, pgid) {
@@ -153,6 +154,7 @@ pub fn set_sid(store: &mut Tasks, caller: Pid) -> ShortReply
     ensures state { state_of store.new ≡ (set_sid_of (state_of store.old) caller).state }
     ensures reply { reply_of result ≡ (set_sid_of (state_of store.old) caller).reply }
     ensures parents { HasParents store.new }
+    ensures threads { store.new.threads ≡ store.old.threads }
 {
     laws(store);
     let Some(found) = find_live(store, caller) else {

@@ -25,6 +25,7 @@ pub fn exec(store: &mut Tasks, caller: Pid) -> ShortReply
     ensures state { state_of store.new ≡ (exec_of (state_of store.old) caller).state }
     ensures reply { reply_of result ≡ (exec_of (state_of store.old) caller).reply }
     ensures parents { HasParents store.new }
+    ensures threads { store.new.threads ≡ store.old.threads }
 {
     laws(store);
     let Some(found) = find_live(store, caller) else {
@@ -49,6 +50,7 @@ pub fn join(store: &mut Tasks, caller: Pid, target: Pid) -> ShortReply
     ensures state { state_of store.new ≡ (join_of (state_of store.old) caller target).state }
     ensures reply { reply_of result ≡ (join_of (state_of store.old) caller target).reply }
     ensures parents { HasParents store.new }
+    ensures threads { store.new.threads ≡ store.old.threads }
 {
     laws(store);
     let Some(found) = find_live(store, caller) else {
@@ -80,6 +82,7 @@ pub fn set_subreaper(store: &mut Tasks, caller: Pid, on: bool) -> ShortReply
     ensures state { state_of store.new ≡ (set_subreaper_of (state_of store.old) caller on).state }
     ensures reply { reply_of result ≡ (set_subreaper_of (state_of store.old) caller on).reply }
     ensures parents { HasParents store.new }
+    ensures threads { store.new.threads ≡ store.old.threads }
 {
     laws(store);
     let Some(found) = find_live(store, caller) else {
@@ -104,6 +107,7 @@ pub fn move_task(store: &mut Tasks, task: Pid, id: u64) -> ShortReply
     ensures state { state_of store.new ≡ (move_of (state_of store.old) task id).state }
     ensures reply { reply_of result ≡ (move_of (state_of store.old) task id).reply }
     ensures parents { HasParents store.new }
+    ensures threads { store.new.threads ≡ store.old.threads }
 {
     laws(store);
     let Some(found) = find_live(store, task) else {

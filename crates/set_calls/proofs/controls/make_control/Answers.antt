@@ -3,6 +3,7 @@ use Rattle.pid_types.specs.Controls.{control_at}
 use Rattle.pid_types.specs.Outcome.{Outcome}
 use Rattle.pid_types.specs.Changes.{make_control}
 use Rattle.pids_charge.specs.Charges.{Charges, stands, home_id}
+use Rattle.task_table.specs.Store.{Store}
 use Rattle.set_calls.proofs.Answered.{all-of, is-made, after-making}
 use Rattle.set_calls.proofs.controls.make_control.Goals as goal
 
@@ -28,3 +29,6 @@ returns-in-Ok-clause-state c =
 pub returns-in-Err-ControlDepth-clause-reply : goal.returns-in-Err-ControlDepth-clause-reply
 unfolding make_control
 returns-in-Err-ControlDepth-clause-reply c = search rules
+
+pub returns-in-Ok-clause-threads : goal.returns-in-Ok-clause-threads
+returns-in-Ok-clause-threads c = ap (λ (s : Store). s.threads) c.make_control.ensures.rest

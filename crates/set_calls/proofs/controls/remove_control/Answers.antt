@@ -5,6 +5,7 @@ use Rattle.pid_types.specs.Outcome.{Outcome}
 use Rattle.pids_charge.specs.Charges.{Charges, stands, home_id}
 use Rattle.pid_types.specs.Outcome.{refused}
 use Rattle.pid_types.specs.Changes.{remove_control}
+use Rattle.task_table.specs.Store.{Store}
 use Rattle.task_table.specs.View.{state_of}
 use Rattle.set_calls.proofs.Answered.{not-removed, removed, after-removal}
 use Rattle.set_calls.proofs.Rehomed.{parents-rehomed}
@@ -40,4 +41,5 @@ returns-in-Ok c =
           (c.in-Ok.ensures.homes gone.0 (ap (parent_control old.charges.controls) is ∙ gone.1)));
       reply = sym (ap (λ (o : Outcome). o.reply) gone.2);
       parents = parents-rehomed old new c.laws.ensures c.laws-in-Ok.ensures c.remove_control.ensures.rest c.requires.parents;
+      threads = ap (λ (s : Store). s.threads) c.remove_control.ensures.rest;
     }

@@ -34,4 +34,5 @@ returns-in-Ok c =
       state = sym (ap (λ (o : Outcome). o.state) came ∙ joined old new c.laws.ensures c.laws-in-Ok.ensures c.requires.parents goes.task t.0 t.1 member r m.0 m.1 refl);
       reply = sym (ap (λ (o : Outcome). o.reply) came);
       parents = parents-regrouped old new c.laws.ensures c.laws-in-Ok.ensures c.requires.parents goes.task t.0 t.1 member r;
+      threads = c.set_group.ensures.threads;
     }

@@ -20,6 +20,7 @@ returns-in-Err c =
       state = sym (ap (λ (o : Outcome). o.state) is);
       reply = sym (ap (λ (o : Outcome). o.reply) is);
       parents = c.requires.parents;
+      threads = refl;
     }
 
 pub returns-in-Ok : goal.returns-in-Ok
@@ -39,4 +40,5 @@ returns-in-Ok c =
       state = sym (ap (λ (o : Outcome). o.state) is ∙ regrouped old new c.laws.ensures c.laws-in-Ok.ensures c.requires.parents found.key found.task c.in-Some.ensures.there.0 member r start_session refl);
       reply = ap Number c.own_number-number.ensures ∙ sym (ap (λ (o : Outcome). o.reply) is);
       parents = parents-regrouped old new c.laws.ensures c.laws-in-Ok.ensures c.requires.parents found.key found.task c.in-Some.ensures.there.0 member r;
+      threads = c.start_session.ensures.threads;
     }

@@ -6,6 +6,7 @@ use Rattle.pid_types.specs.Names.{with_row, is_live}
 use Rattle.pid_types.specs.Threads.{process_numbered}
 use Rattle.pid_types.specs.Outcome.{Outcome, changed, for_found, refuse_if}
 use Rattle.pid_types.specs.Changes.{join, set_children_space}
+use Rattle.task_table.specs.Store.{Store}
 use Rattle.task_table.specs.View.{name_at, row_of, state_of}
 use Rattle.task_table.proofs.Changed.{retasked, updated}
 use Rattle.set_calls.proofs.tasks.join.Goals as goal
@@ -26,3 +27,6 @@ returns-clause-state c =
     ∙ ap (λ b. (refuse_if (state_of old) (not b) NoTask (goes (row_of old other.key other.task))).state) (sym c.is_live.ensures ∙ c.if-not-is_live.false)
     ∙ retasked old new c.laws.ensures c.laws-2.ensures found.key found.task task c.in-Some.ensures.there.0 (updated old new found.key task c.update.ensures.tasks c.update.ensures.rest)
     (set_children_space (name_at old.numbering other.key).space) (λ i. record (row_of old found.key found.task) { children_space = sym c.own_id-children_space.ensures i }))
+
+pub returns-clause-threads : goal.returns-clause-threads
+returns-clause-threads c = ap (λ (s : Store). s.threads) c.update.ensures.rest
