@@ -119,6 +119,7 @@ fn fork_planned(
     ensures reply { Replies result (child_there store.old found.now.key found.now.task) }
     ensures err { OnErr result (state_of store.new ≡ state_of store.old) }
     ensures parents { HasParents store.new }
+    ensures threads { store.new.threads ≡ store.old.threads }
 {
     laws(store);
     if let Some(refusal) = passed_limit(store, found) {
@@ -139,6 +140,7 @@ fn fork_into(store: &mut Tasks, found: &Found, space: SpaceKey) -> Result<ShortR
     ensures reply { Replies result (child_there store.old found.now.key found.now.task) }
     ensures err { OnErr result (state_of store.new ≡ state_of store.old) }
     ensures parents { HasParents store.new }
+    ensures threads { store.new.threads ≡ store.old.threads }
 {
     laws(store);
     let mut numbers = ArrayVec::<Pid, LEVELS>::new();
@@ -158,6 +160,7 @@ fn fork_into_root(store: &mut Tasks, found: &Found) -> Result<ShortReply, AllocE
     ensures reply { Replies result (child_there store.old found.now.key found.now.task) }
     ensures err { OnErr result (state_of store.new ≡ state_of store.old) }
     ensures parents { HasParents store.new }
+    ensures threads { store.new.threads ≡ store.old.threads }
 {
     laws(store);
     match store.numbers().plan_one(0) {
@@ -188,6 +191,7 @@ fn fork_new_planned(
     ensures reply { Replies result (child_below store.old found.now.key found.now.task stamp) }
     ensures err { OnErr result (state_of store.new ≡ state_of store.old) }
     ensures parents { HasParents store.new }
+    ensures threads { store.new.threads ≡ store.old.threads }
 {
     laws(store);
     if let Some(refusal) = passed_limit(store, found) {
@@ -212,6 +216,7 @@ fn fork_inside(store: &mut Tasks, found: &Found, stamp: u64) -> Result<ShortRepl
     ensures reply { Replies result (child_below store.old found.now.key found.now.task stamp) }
     ensures err { OnErr result (state_of store.new ≡ state_of store.old) }
     ensures parents { HasParents store.new }
+    ensures threads { store.new.threads ≡ store.old.threads }
 {
     laws(store);
     let mut numbers = ArrayVec::<Pid, LEVELS>::new();
@@ -305,6 +310,7 @@ pub fn fork(
         ≡ (fork_of (state_of store.old) stamp caller new_space).reply) }
     ensures err { OnErr result (state_of store.new ≡ state_of store.old) }
     ensures parents { HasParents store.new }
+    ensures threads { store.new.threads ≡ store.old.threads }
 {
     let Some(found) = find_live(store, caller) else {
         return Ok(ShortReply::Refused(Refusal::NoCaller));

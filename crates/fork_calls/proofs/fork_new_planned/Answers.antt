@@ -70,3 +70,6 @@ fork_new-requires-clause-planned c = c.requires.planned
 
 pub returns-clause-parents : goal.returns-clause-parents
 returns-clause-parents c = grind arith
+
+pub returns-clause-threads : goal.returns-clause-threads
+returns-clause-threads c = c.in_ok-keys.ensures.begun.threads

@@ -56,3 +56,6 @@ returns-clause-reply c =
 
 pub returns-clause-err : goal.returns-clause-err
 returns-clause-err c = search rules
+
+pub returns-clause-threads : goal.returns-clause-threads
+returns-clause-threads c = c.in_ok-key.ensures.begun.threads
