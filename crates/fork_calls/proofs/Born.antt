@@ -13,7 +13,7 @@ use Rattle.pid_numbers.specs.Numbering.{id_at, new_identifier}
 use Rattle.task_tree.specs.declared.Task.{Task}
 use Rattle.task_tree.specs.Tree.{task_at, parent_of}
 use Rattle.pids_charge.specs.Charges.{home_id}
-use Rattle.task_table.specs.Store.{Store, Begins}
+use Rattle.task_table.specs.Store.{Store, HasNoThreads, Begins}
 use Rattle.task_table.specs.View.{name_of, name_at, row_of, spaces_of, state_of}
 use Rattle.task_table.specs.Lawful.{IsLawful}
 use Rattle.task_table.specs.Whole.{HasParents}
@@ -51,11 +51,11 @@ module _ (s s' : Store) (l : IsLawful s) (l' : IsLawful s') (kin : HasParents s)
         (ap (λ (x : Task). x.children_space) made) (ap (λ (x : Task). x.subreaper) made)
 
     -- the state with the child
-    pub state-born : planned.rows ≡ (state_of s).rows → planned.threads ≡ [] → planned.left ≡ [] → planned.controls ≡ s.charges.controls → planned.pid_max ≡ s.numbering.pid_max
+    pub state-born : HasNoThreads s.threads → planned.rows ≡ (state_of s).rows → planned.threads ≡ [] → planned.left ≡ [] → planned.controls ≡ s.charges.controls → planned.pid_max ≡ s.numbering.pid_max
         → with_cursors planned (path_up planned.spaces t) ≡ spaces_of s'.numbering
         → sweep (with_child planned (child_of planned (row_of s from caller) t) (path_up planned.spaces t)) ≡ state_of s'
-    state-born rows threads left controls bound spaces =
-        swept s'.numbering l'.numbering s' l' (IsLess-same s'.numbering l'.numbering) (with_child planned (child_of planned (row_of s from caller) t) (path_up planned.spaces t))
+    state-born alone rows threads left controls bound spaces =
+        swept s'.numbering l'.numbering s' l' (subst HasNoThreads (sym begun.threads) alone) (IsLess-same s'.numbering l'.numbering) (with_child planned (child_of planned (row_of s from caller) t) (path_up planned.spaces t))
         (ap (insert_row (child_of planned (row_of s from caller) t)) rows ∙ ap (λ r. insert_row r (state_of s).rows) (sym row_born)
         ∙ sym (rows-insert s s' l l' begun.bound key task begun.fresh.0 begun.fresh.1 begun.begun (root_kept comes) (other_rows comes)))
         threads left spaces (controls ∙ sym begun.home.controls) (bound ∙ sym begun.bound)

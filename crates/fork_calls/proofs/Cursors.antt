@@ -11,17 +11,18 @@ use Rattle.pid_types.specs.State.{State}
 use Rattle.pid_types.specs.Names.{path_up}
 use Rattle.pid_types.specs.Fork.{drawn, moved_cursor, with_cursors}
 use Rattle.pid_numbers.specs.Numbering.{Numbering, Namespace, namespace_at, id_at, path_at, has_fallen_at, draw_in, moved}
-use Rattle.task_table.specs.Store.{Store}
+use Rattle.task_table.specs.Store.{Store, HasNoThreads}
 use Rattle.task_table.specs.View.{parent_id, space_of, spaces_of, state_of}
 use Rattle.task_table.specs.Lawful.{HasLaws, IsLawful}
 use Rattle.task_table.proofs.Keys.{id_for, own_id, only, on_path, path-is, space_at-key, number-is_key}
 use Rattle.fork_calls.proofs.Draws.{IsPlanned, draw-key, map-draws, beside-map}
 use Rattle.task_table.proofs.Newborn.{KeepsNamespaces}
 
--- a store's own state is planned so
-pub IsPlanned-own : (s : Store) → IsLawful s → IsPlanned s (state_of s)
-IsPlanned-own s l = record {
+-- the own state of a store without threads is planned so
+pub IsPlanned-own : (s : Store) → IsLawful s → HasNoThreads s.threads → IsPlanned s (state_of s)
+IsPlanned-own s l alone = record {
   rows = refl;
+  alone = alone;
   threads = refl;
   bound = refl;
   numbers = λ k sp i u at e. number-is_key s.numbering l.numbering sp i k u e at;
@@ -30,10 +31,10 @@ IsPlanned-own s l = record {
 }
 
 -- what it draws along the path of a namespace is what its namespaces give
-pub drew-own : (s : Store) (l : IsLawful s) (space t : ℕ) → id_at s.numbering space ≡ Some t
+pub drew-own : (s : Store) (l : IsLawful s) → HasNoThreads s.threads → (space t : ℕ) → id_at s.numbering space ≡ Some t
     → map (λ q. unwrap_or (draw_in s.numbering q) 0) (path_at s.numbering space) ≡ map (drawn (state_of s)) (path_up (spaces_of s.numbering) t)
-drew-own s l space t id =
-    sym (ap (map (drawn (state_of s))) (path-is s.numbering l.numbering space t 0 id (l.numbering.some space t id)) ∙ map-draws s l (state_of s) (IsPlanned-own s l) 0 space)
+drew-own s l alone space t id =
+    sym (ap (map (drawn (state_of s))) (path-is s.numbering l.numbering space t 0 id (l.numbering.some space t id)) ∙ map-draws s l (state_of s) (IsPlanned-own s l alone) 0 space)
 
 module _ (b : Numbering) (h : HasLaws b) where
   -- whether an id is on a path is whether its key is
@@ -89,16 +90,16 @@ abbrev pub gives : Numbering → ℕ → ℕ
 gives b q = unwrap_or (draw_in b q) 0
 
 -- the namespaces after a fork into one of them
-pub spaces-moved : (s : Store) (l : IsLawful s) (c : Numbering) → KeepsNamespaces s.numbering c → (sp t : ℕ) → id_at s.numbering sp ≡ Some t → 0 < length (path_at s.numbering sp)
+pub spaces-moved : (s : Store) (l : IsLawful s) → HasNoThreads s.threads → (c : Numbering) → KeepsNamespaces s.numbering c → (sp t : ℕ) → id_at s.numbering sp ≡ Some t → 0 < length (path_at s.numbering sp)
     → c.order ≡ s.numbering.order → ((q : ℕ) → namespace_at c q ≡ option_map (moved (path_at s.numbering sp) (map (gives s.numbering) (path_at s.numbering sp)) q) (namespace_at s.numbering q))
     → with_cursors (state_of s) (path_up (spaces_of s.numbering) t) ≡ spaces_of c
 unfolding with_cursors drawn
-spaces-moved s l c keeps sp t e some order now = from s.numbering.order l.numbering.each ∙ sym (ap (map (space_of c)) order)
+spaces-moved s l alone c keeps sp t e some order now = from s.numbering.order l.numbering.each ∙ sym (ap (map (space_of c)) order)
   where
     one : (p : ℕ × ℕ) → id_at s.numbering p.1 ≡ Some p.0 → moved_cursor (state_of s) (path_up (spaces_of s.numbering) t) (space_of s.numbering p) ≡ space_of c p
     one p at = space-moved s.numbering c l.numbering keeps (state_of s) (path_at s.numbering sp) (path_up (spaces_of s.numbering) t) (gives s.numbering) p at (now p.1)
         (ap (λ ids. contains ids p.0) (path-is s.numbering l.numbering sp t p.0 e some) ∙ contains-ids s.numbering l.numbering p.0 p.1 at (path_at s.numbering sp))
-        (λ on. ap (λ o. unwrap_or o 0) (draw-key s l (state_of s) (IsPlanned-own s l) p.1 p.0 at))
+        (λ on. ap (λ o. unwrap_or o 0) (draw-key s l (state_of s) (IsPlanned-own s l alone) p.1 p.0 at))
 
     from : (ps : List (ℕ × ℕ)) → AllByRecursion (λ p. id_at s.numbering p.1 ≡ Some p.0) ps
         → map (moved_cursor (state_of s) (path_up (spaces_of s.numbering) t)) (map (space_of s.numbering) ps) ≡ map (space_of c) ps

@@ -12,7 +12,7 @@ use Rattle.pid_types.specs.Fork.{drawn}
 use Rattle.model_laws.proofs.Lists.{find-map, find-same}
 use Rattle.pid_numbers.specs.Numbering.{Namespace, Identifier, namespace_at, id_at, identifier_at, number_of, path_at, draw_in}
 use Rattle.pid_numbers.proofs.Model.{draw-is}
-use Rattle.task_table.specs.Store.{Store}
+use Rattle.task_table.specs.Store.{Store, HasNoThreads}
 use Rattle.task_table.specs.View.{name_at, state_of}
 use Rattle.task_table.specs.Lawful.{IsLawful}
 use Rattle.task_table.proofs.Keys.{id_for, path-there}
@@ -29,9 +29,10 @@ at_place [] x lt = absurd (omega (arith, lt))
 at_place (y ∷ ys) zero lt = inl refl
 at_place (y ∷ ys) (suc x) lt = inr (at_place ys x (omega (arith, lt)))
 
--- a state with a store's rows, and no threads, in which its identifiers have their numbers and its namespaces their cursors
+-- a state with the rows of a store without threads, in which its identifiers have their numbers and its namespaces their cursors
 pub record IsPlanned (s : Store) (planned : State) : Type 0 where
   pub rows : planned.rows ≡ (state_of s).rows
+  pub alone : HasNoThreads s.threads
   pub threads : planned.threads ≡ []
   pub bound : planned.pid_max ≡ s.numbering.pid_max
   pub numbers : (k sp i : ℕ) (u : Identifier) → identifier_at s.numbering k ≡ Some u → id_at s.numbering sp ≡ Some i → number planned.spaces (name_at s.numbering k) i ≡ number_of s.numbering k sp
@@ -54,7 +55,7 @@ module _ (s : Store) (l : IsLawful s) (planned : State) (p : IsPlanned s planned
       let t = there sp i e in
       draw-is planned s.numbering i sp t.0 t.1 p.bound (p.cursors sp i t.0 t.1 e)
       (λ k u at.
-      let x = place_of (in_use planned) (name_at s.numbering k) (subst (IsIn (name_at s.numbering k)) (sym names_are) (used-in s l k u at)) in
+      let x = place_of (in_use planned) (name_at s.numbering k) (subst (IsIn (name_at s.numbering k)) (sym names_are) (used-in s l p.alone k u at)) in
       (x.0, x.1, ap (λ name. number planned.spaces name i) x.2 ∙ p.numbers k sp i u at e))
       (λ x lt.
       let k = used-from s l (get_or (in_use planned) x root_name) (subst (IsIn (get_or (in_use planned) x root_name)) names_are (at_place (in_use planned) x lt)) in

@@ -127,7 +127,7 @@ module _ (s : Store) (l : IsLawful s) (w : IsWhole s) (stamp : ℕ) (below : IsB
 
   pub inner-state : state_of s' ≡ (forked_into (state_of s) plan (row_of s from caller) stamp).state
   inner-state = sym (ap (λ o. (unless_found (state_of s) o (λ r. r) (forked plan (row_of s from caller) stamp)).state) room
-      ∙ state-born s s' l l' w.parents key from task space numbers begun keeps caller at stamp id_new plan drew made refl refl refl refl refl cursors)
+      ∙ state-born s s' l l' w.parents key from task space numbers begun keeps caller at stamp id_new plan drew made w.alone refl refl refl refl refl cursors)
 
   pub inner-reply : (i : ℕ) → i ≡ (row_of s from caller).name.space
       → Forked (number_or_zero (spaces_of s'.numbering) (name_at s'.numbering key) i) (root_number (name_at s'.numbering key)) ≡ (forked_into (state_of s) plan (row_of s from caller) stamp).reply

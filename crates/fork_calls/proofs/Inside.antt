@@ -75,10 +75,11 @@ module _ (s : Store) (l : IsLawful s) (w : IsWhole s) (stamp : ℕ) (below : IsB
   pub IsPlanned-new : IsPlanned s planned
   IsPlanned-new = record {
     rows = refl;
+    alone = w.alone;
     threads = refl;
     bound = refl;
     numbers = λ k sp i u e at.
-        kept.number_old (state_of s) coherent stamp below p stands shallow (name_at s.numbering k) (used-in s l k u e) i
+        kept.number_old (state_of s) coherent stamp below p stands shallow (name_at s.numbering k) (used-in s l w.alone k u e) i
         ∙ number-is_key s.numbering l.numbering sp i k u at e;
     cursors = λ sp i t e at.
         ap (λ o. unwrap_or (option_map (λ (x : Space). x.cursor) o) 0) (kept.at_old (state_of s) coherent stamp below p stands shallow i (space_of s.numbering (i, sp)) (space_at-key s.numbering l.numbering sp i at))

@@ -9,7 +9,7 @@ use Rattle.pid_types.specs.Draw.{draw}
 use Rattle.pid_types.specs.Fork.{no_room}
 use Rattle.model_laws.proofs.Lists.{find-Some}
 use Rattle.pid_numbers.specs.Numbering.{Namespace, id_at, namespace_at, path_at, draw_in}
-use Rattle.task_table.specs.Store.{Store}
+use Rattle.task_table.specs.Store.{Store, HasNoThreads}
 use Rattle.task_table.specs.View.{state_of}
 use Rattle.task_table.specs.Lawful.{IsLawful}
 use Rattle.task_table.proofs.Keys.{id_for, path-is, path-there}
@@ -21,10 +21,10 @@ has-id : (o : Option Namespace) (i : ℕ) → option_map (λ t. t.id) o ≡ Some
 has-id None i e = absurd (cc)
 has-id (Some x) i e = refl
 
-module _ (s : Store) (l : IsLawful s) (sp t : ℕ) (at : id_at s.numbering sp ≡ Some t) (caller : Row) where
+module _ (s : Store) (l : IsLawful s) (alone : HasNoThreads s.threads) (sp t : ℕ) (at : id_at s.numbering sp ≡ Some t) (caller : Row) where
   -- the first namespace with no number to give
   pub full-is : find (λ i. is_none (draw (state_of s) i)) (path_up (state_of s).spaces t) ≡ option_map (id_for s.numbering l.numbering 0) (find (λ q. is_none (draw_in s.numbering q)) (path_at s.numbering sp))
-  full-is = ap (find (λ i. is_none (draw (state_of s) i))) (path-is s.numbering l.numbering sp t 0 at (l.numbering.some sp t at)) ∙ find-draws s l (state_of s) (IsPlanned-own s l) 0 sp
+  full-is = ap (find (λ i. is_none (draw (state_of s) i))) (path-is s.numbering l.numbering sp t 0 at (l.numbering.some sp t at)) ∙ find-draws s l (state_of s) (IsPlanned-own s l alone) 0 sp
 
   -- there is a number in each, so the limits decide
   pub room-ok : find (λ q. is_none (draw_in s.numbering q)) (path_at s.numbering sp) ≡ None → no_room (state_of s) caller t ≡ option_map PidsLimit (passed_limit (state_of s) caller.home)

@@ -33,6 +33,7 @@ pub use would::would_fork;
 
 /// The control group whose limit one task more beside the caller would pass.
 fn passed_limit(store: &Tasks, found: &Found) -> Option<Refusal>
+    requires whole { IsWhole store.now }
     requires caller { IsCaller store.now found.now }
     ensures { result ≡ option_map Refusal.PidsLimit (passed_limit_of (state_of store.now)
         (row_of store.now found.now.key found.now.task).home) }

@@ -20,6 +20,7 @@ use task_table::view::{Found, find_live, laws};
 /// The reply where each namespace has a number to give. The caller's namespace is one of them, so its child has there
 /// what that gives next.
 fn would_get(store: &Tasks, found: &Found, numbers: &[Pid]) -> ShortReply
+    requires whole { IsWhole store.now }
     requires caller { IsCaller store.now found.now }
     requires some { 0 < length numbers.now }
     ensures { reply_of result ≡ planned_reply

@@ -18,7 +18,7 @@ use Rattle.pids_charge.specs.Charges.{Home, home_at, ChangesHome, home_id}
 use Rattle.task_tree.specs.declared.Task.{Task}
 use Rattle.task_tree.specs.Tree.{task_at, parent_of, lives, handed}
 use Rattle.groups_sessions.specs.Membership.{group_of, session_of}
-use Rattle.task_table.specs.Store.{Store, IsLess}
+use Rattle.task_table.specs.Store.{Store, IsLess, HasNoThreads}
 use Rattle.task_table.proofs.Changes.{in_range}
 use Rattle.task_table.specs.View.{name_at, row_of, row_with, state_of}
 use Rattle.task_table.specs.Lawful.{IsLawful}
@@ -36,6 +36,7 @@ pub record HasEnded (s s' : Store) (key heir : ℕ) (t : Task) (status : ℕ) : 
   pub home : ChangesHome s.charges s'.charges t.home (option_map (λ (h : Home). record h { live = h.live - 1; zombies = h.zombies + 1 }) (home_at s.charges t.home))
   pub numbering : s'.numbering ≡ s.numbering
   pub members : s'.members ≡ s.members
+  pub threads : s'.threads ≡ s.threads
 
 module _ (s s' : Store) (l : IsLawful s) (l' : IsLawful s') (w : IsWhole s) (key heir : ℕ) (t : Task) (status : ℕ) (at : task_at s.tree key ≡ Some t) (e : HasEnded s s' key heir t status) where
   abbrev after : Row → Row
@@ -103,7 +104,7 @@ module _ (s s' : Store) (l : IsLawful s) (l' : IsLawful s') (w : IsWhole s) (key
       → sweep (record (state_of s) { rows = rows_after_exit (state_of s) (row_of s key t) status }) ≡ state_of s'
   unfolding rows_after_exit
   ended live inner h =
-      swept s.numbering l.numbering s' l' (subst (IsLess s.numbering) (sym e.numbering) (IsLess-same s.numbering l.numbering)) (record (state_of s) { rows = rows_after_exit (state_of s) (row_of s key t) status })
+      swept s.numbering l.numbering s' l' (subst HasNoThreads (sym e.threads) w.alone) (subst (IsLess s.numbering) (sym e.numbering) (IsLess-same s.numbering l.numbering)) (record (state_of s) { rows = rows_after_exit (state_of s) (row_of s key t) status })
       (ap (λ o. map (row_after_exit (row_of s key t) o (Exited status)) (state_of s).rows) (new_parent-is s l w key t at heir live inner h)
       ∙ sym (rows-map s s' l l' (ap (λ b. b.pid_max) e.numbering) (λ k v is. ap (λ b. number_of b k 0) e.numbering) after each_row))
       refl refl refl (sym e.home.controls) (sym (ap (λ b. b.pid_max) e.numbering))

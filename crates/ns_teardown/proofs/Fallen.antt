@@ -1,5 +1,5 @@
 -- What is left in the model when a namespace has fallen.
-use Rattle.std.proofs.Common.{◌≡◌, ◌≢◌, ◌⊎◌, inl, inr, ℕ, ◌==◌, ◌&&◌, ◌||◌, Bool, true, false, not, List, [], ◌∷◌, map, slice_get, Option, Some, None, is_some, if◌then◌else◌, refl, sym, ap, ◌∙◌, option_map, option_and_then, unwrap_or}
+use Rattle.std.proofs.Common.{◌≡◌, ◌≢◌, ◌⊎◌, inl, inr, ℕ, ◌==◌, ◌&&◌, ◌||◌, Bool, true, false, not, List, [], ◌∷◌, map, slice_get, Option, Some, None, is_some, if◌then◌else◌, refl, sym, ap, subst, ◌∙◌, option_map, option_and_then, unwrap_or}
 use Rattle.std.specs.Prelude.{reverse, slice_index_or}
 use Rattle.std.specs.Option.{option_map_or}
 use Rattle.std.specs.List.{AllByRecursion}
@@ -20,7 +20,7 @@ use Rattle.pid_numbers.specs.Numbering.{Numbering, Namespace, Identifier, namesp
 use Rattle.pids_charge.specs.Charges.{Home, home_id}
 use Rattle.task_tree.specs.declared.Task.{Task}
 use Rattle.task_tree.specs.Tree.{task_at, parent_of, lives}
-use Rattle.task_table.specs.Store.{Store, IsLess}
+use Rattle.task_table.specs.Store.{Store, IsLess, HasNoThreads}
 use Rattle.task_table.proofs.Less.{number-less}
 use Rattle.task_table.specs.View.{name_of, name_at, parent_id, space_of, spaces_of, row_of, row_with, state_of}
 use Rattle.task_table.specs.Lawful.{HasLaws, IsLawful}
@@ -94,6 +94,7 @@ pub record HasFallen (s s' : Store) (space init status : ℕ) : Type 0 where
   pub less : IsLess marked s'.numbering
   pub homes : KeepsHomes s.charges s'.charges
   pub parents : HasParents s'
+  pub threads : s'.threads ≡ s.threads
 
 module _ (s s' : Store) (l : IsLawful s) (l' : IsLawful s') (w : IsWhole s) (init : ℕ) (t : Task) (status : ℕ) (at : task_at s.tree init ≡ Some t) (u : Identifier) (is : identifier_at s.numbering init ≡ Some u)
     (first : number_of s.numbering init u.space ≡ Some 1) (f : HasFallen s s' u.space init status) where
@@ -232,5 +233,5 @@ module _ (s s' : Store) (l : IsLawful s) (l' : IsLawful s') (w : IsWhole s) (ini
   unfolding fall rows_after_fall
   fallen =
       let bound : s'.numbering.pid_max ≡ s.numbering.pid_max = f.less.bound ∙ f.falls.bound in
-      swept f.marked f.laws s' l' f.less (fall (state_of s) row status) (sym (rows-both s s' l l' bound roots after stays each_row))
+      swept f.marked f.laws s' l' (subst HasNoThreads (sym f.threads) w.alone) f.less (fall (state_of s) row status) (sym (rows-both s s' l l' bound roots after stays each_row))
       refl refl (spaces-after s.numbering f.marked l.numbering u.space id own f.falls) (sym f.homes.controls) (sym bound)

@@ -16,7 +16,7 @@ use Rattle.task_tree.specs.declared.Task.{Task}
 use Rattle.task_tree.specs.Tree.{parent_of}
 use Rattle.groups_sessions.specs.Membership.{membership_at}
 use Rattle.pids_charge.specs.Charges.{Home, home_at, home_id}
-use Rattle.task_table.specs.Store.{Store, Begins, bare}
+use Rattle.task_table.specs.Store.{Store, HasNoThreads, Begins, bare}
 use Rattle.task_table.specs.Collect.{collect}
 use Rattle.task_table.specs.View.{name_of, name_at, key_numbered, parent_id, row_of, row_with, row_numbered, space_of, state_of}
 use Rattle.task_table.specs.Lawful.{IsLawful}
@@ -29,6 +29,10 @@ use Rattle.pid_table.specs.Bare.{IsBare}
 nothing_taken : (f : Option Identifier → Option ℕ) → f None ≡ None → (xs : List (Option Identifier)) → ((i : ℕ) → slice_index_or xs i None ≡ None) → filter_map f xs ≡ []
 nothing_taken f none [] all = refl
 nothing_taken f none (x ∷ xs) all = rw (all 0) (rw none (nothing_taken f none xs (λ i. all (suc i))))
+
+-- where the threads are as they were each process is still one thread
+pub alone_still : (old new : Store) → new.threads ≡ old.threads → HasNoThreads old.threads → HasNoThreads new.threads
+alone_still old new same alone = subst HasNoThreads (sym same) alone
 
 module _ (s : Store) (l : IsLawful s) (b : IsBare s) where
   path : path_at s.numbering 0 ≡ 0 ∷ []
@@ -140,4 +144,4 @@ module _ (s : Store) (l : IsLawful s) (b : IsBare s) where
     ]
 
     pub whole-begun : IsSound (root_state s.numbering.pid_max) → IsWhole s'
-    whole-begun sound = record { sound = subst IsSound (sym state-begun) sound; parents = parents-begun }
+    whole-begun sound = record { sound = subst IsSound (sym state-begun) sound; parents = parents-begun; alone = subst HasNoThreads (sym begun.threads) b.threads }

@@ -2,7 +2,7 @@
 use Rattle.std.specs.Prelude.{◌≡◌, ◌≢◌, ℕ, [], ◌∷◌, Some, None}
 use Rattle.pid_numbers.specs.Numbering.{namespace_at, identifier_at, new_namespace}
 use Rattle.task_tree.specs.Tree.{task_at}
-use Rattle.task_table.specs.Store.{Store}
+use Rattle.task_table.specs.Store.{Store, HasNoThreads}
 
 -- the root namespace and the root control group, and no task
 pub record IsBare (s : Store) : Type 0 where
@@ -12,4 +12,5 @@ pub record IsBare (s : Store) : Type 0 where
   pub names : (i : ℕ) → identifier_at s.numbering i ≡ None
   pub tasks : (k : ℕ) → task_at s.tree k ≡ None
   pub members : s.members ≡ []
+  pub threads : HasNoThreads s.threads
   pub controls : s.charges.controls ≡ record { id = 0; parent = None; limit = None } ∷ []

@@ -67,6 +67,7 @@ fn begin_root_init(store: &mut Tasks) -> Result<(), AllocError>
     requires { IsBare store.old }
     ensures state { OnOk result (state_of store.new ≡ root_state store.old.numbering.pid_max) }
     ensures whole { OnOk result (IsWhole store.new) }
+    ensures threads { store.new.threads ≡ store.old.threads }
 {
     laws(store);
     root_state_is_sound();

@@ -68,6 +68,7 @@ fn make_change(store: &mut Tasks, stamp: u64, call: Call) -> Result<ShortReply, 
     ensures err { OnErr result (state_of store.new ≡ state_of store.old) }
     ensures grows { OnErr result (IsTrue (may_grow call)) }
     ensures parents { HasParents store.new }
+    ensures threads { store.new.threads ≡ store.old.threads }
 {
     let short = match call {
         Call::Fork { caller, new_space } => fork(store, caller, new_space, stamp)?,
@@ -104,6 +105,7 @@ fn make_short(store: &mut Tasks, stamp: u64, call: Call) -> Result<ShortReply, A
     ensures err { OnErr result (state_of store.new ≡ state_of store.old) }
     ensures grows { OnErr result (IsTrue (may_grow call)) }
     ensures parents { HasParents store.new }
+    ensures threads { store.new.threads ≡ store.old.threads }
 {
     nothing_changes();
     if is_query(&call) {
@@ -136,6 +138,7 @@ fn make(store: &mut Tasks, stamp: u64, call: Call, reply: &mut Reply) -> Result<
     ensures err { OnErr result (state_of store.new ≡ state_of store.old) }
     ensures grows { OnErr result (IsTrue (may_grow call)) }
     ensures parents { HasParents store.new }
+    ensures threads { store.new.threads ≡ store.old.threads }
 {
     if let Call::NsPid { caller, target } = call {
         put_ns_pid(store, caller, target, reply);
@@ -277,6 +280,7 @@ impl PidTable {
     /// It costs a search on each level of the namespaces that the call names, a step for each control group around the
     /// task, and for a fall one for each member and for each namespace inside. A wait for a group walks at
     /// most four times the shorter of two lists: the caller's children, and the members of the group.
+    #[tactic(auto, using(crate::proofs::Begun::alone_still))]
     #[inline(always)]
     pub fn step(&mut self, stamp: u64, call: Call, reply: &mut Reply) -> Result<(), AllocError>
         requires below { IsBelow stamp self.old }
@@ -291,6 +295,7 @@ impl PidTable {
 
     /// Makes a call but `NSpid`, which may be answered by a list, as [`PidTable::step`] does: so the reply is a short
     /// one, and nothing is written but that.
+    #[tactic(auto, using(crate::proofs::Begun::alone_still))]
     #[inline(always)]
     pub fn step_short(&mut self, stamp: u64, call: Call) -> Result<ShortReply, AllocError>
         requires below { IsBelow stamp self.old }

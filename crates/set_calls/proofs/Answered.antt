@@ -15,7 +15,7 @@ use Rattle.pid_types.specs.Controls.{control_at, control_path, parent_control, c
 use Rattle.pid_types.specs.Outcome.{Outcome, answered, changed, refused, for_found, refuse_if, sweep}
 use Rattle.pid_types.specs.Changes.{is_busy, limited, with_control, without_control, with_limit, make_control, remove_control, set_limit, count_tasks}
 use Rattle.pids_charge.specs.Charges.{home_at, handed_on, stands, home_id, remove_refusal, limit_refusal}
-use Rattle.task_table.specs.Store.{Store}
+use Rattle.task_table.specs.Store.{Store, HasNoThreads}
 use Rattle.task_table.specs.View.{state_of}
 use Rattle.task_table.specs.Lawful.{IsLawful}
 use Rattle.task_table.proofs.InUse.{homed}
@@ -66,18 +66,18 @@ module _ (s : Store) (l : IsLawful s) (c id : ℕ) (standing : stands s.charges 
   state = state_of s
 
   -- removal
-  removal : remove_refusal s.charges c ≡ first_of_two (parent_control s.charges.controls id) (is_busy state id) ControlBusy
-  removal =
-      ap (λ b. first_of_two (parent_control s.charges.controls (home_id s.charges c)) b ControlBusy) (sym (busy-is s l c standing))
+  removal : HasNoThreads s.threads → remove_refusal s.charges c ≡ first_of_two (parent_control s.charges.controls id) (is_busy state id) ControlBusy
+  removal alone =
+      ap (λ b. first_of_two (parent_control s.charges.controls (home_id s.charges c)) b ControlBusy) (sym (busy-is s l alone c standing))
       ∙ ap (λ i. first_of_two (parent_control s.charges.controls i) (is_busy state i) ControlBusy) is
 
-  pub not-removed : (r : Refusal) → remove_refusal s.charges c ≡ Some r → remove_control state id ≡ refused state r
+  pub not-removed : HasNoThreads s.threads → (r : Refusal) → remove_refusal s.charges c ≡ Some r → remove_control state id ≡ refused state r
   unfolding remove_control
-  not-removed r e = refused-at state id there (is_busy state id) ControlBusy (λ parent. changed (without_control state id parent) Done) r (sym removal ∙ e)
+  not-removed alone r e = refused-at state id there (is_busy state id) ControlBusy (λ parent. changed (without_control state id parent) Done) r (sym (removal alone) ∙ e)
 
-  pub removed : remove_refusal s.charges c ≡ None → (p : ℕ) × (parent_control s.charges.controls id ≡ Some p) × (remove_control state id ≡ changed (without_control state id p) Done)
+  pub removed : HasNoThreads s.threads → remove_refusal s.charges c ≡ None → (p : ℕ) × (parent_control s.charges.controls id ≡ Some p) × (remove_control state id ≡ changed (without_control state id p) Done)
   unfolding remove_control
-  removed e = done-at state id there (is_busy state id) ControlBusy (λ parent. changed (without_control state id parent) Done) (sym removal ∙ e)
+  removed alone e = done-at state id there (is_busy state id) ControlBusy (λ parent. changed (without_control state id parent) Done) (sym (removal alone) ∙ e)
 
   -- limits
   limiting : (limit : Option ℕ) → limit_refusal s.charges c limit ≡ first_of_two (parent_control s.charges.controls id) (option_map_or (nat_lt greatest_limit) limit false) BadLimit
@@ -116,28 +116,28 @@ module _ (s : Store) (l : IsLawful s) (c id : ℕ) (standing : stands s.charges 
       go false e = refl
       go true e = absurd (shallow (grind (arith, nat_tests, e)))
 
-  module _ (s' : Store) (l' : IsLawful s') (rest : s' ≡ record s { charges = s'.charges }) where
+  module _ (alone : HasNoThreads s.threads) (s' : Store) (l' : IsLawful s') (rest : s' ≡ record s { charges = s'.charges }) where
     -- what the changes leave
     pub after-removal : (p : ℕ) → s'.charges.controls ≡ filter (λ g. not (g.id == home_id s.charges c)) s.charges.controls
         → ((k : ℕ) → home_at s'.charges k ≡ option_and_then (handed_on (home_id s.charges c) p) (home_at s.charges k)) → sweep (without_control state id p) ≡ state_of s'
     unfolding without_control
     after-removal p controls homes =
         ap (λ (cs : List Control). sweep (record state { rows = map (in_home (λ i. if i == id then p else i)) state.rows; controls = cs })) (sym (controls ∙ ap (λ i. filter (λ g. not (g.id == i)) s.charges.controls) is))
-        ∙ handed s s' l l' rest id p (λ k. homes k ∙ ap (λ i. option_and_then (handed_on i p) (home_at s.charges k)) is)
+        ∙ handed s s' l l' rest alone id p (λ k. homes k ∙ ap (λ i. option_and_then (handed_on i p) (home_at s.charges k)) is)
 
     pub after-limit : (limit : Option ℕ) → s'.charges.controls ≡ map (limited (home_id s.charges c) limit) s.charges.controls
         → ((k : ℕ) → home_at s'.charges k ≡ home_at s.charges k) → sweep (with_limit state id limit) ≡ state_of s'
     unfolding with_limit
     after-limit limit controls homes =
         ap (λ (cs : List Control). sweep (record state { controls = cs })) (sym (controls ∙ ap (λ i. map (limited i limit) s.charges.controls) is))
-        ∙ unmoved s s' l l' rest (λ k t e. homes t.home)
+        ∙ unmoved s s' l l' rest alone (λ k t e. homes t.home)
 
     pub after-making : (stamp key : ℕ) → s'.charges.controls ≡ s.charges.controls ++ record { id = stamp; parent = Some (home_id s.charges c); limit = None } ∷ []
         → home_at s.charges key ≡ None → ((k : ℕ) → k ≢ key → home_at s'.charges k ≡ home_at s.charges k) → sweep (with_control state id stamp) ≡ state_of s'
     unfolding with_control
     after-making stamp key controls fresh others =
         ap (λ (cs : List Control). sweep (record state { controls = cs })) (sym (controls ∙ ap (λ (i : ℕ). s.charges.controls ++ record { id = stamp; parent = Some i; limit = None } ∷ []) is))
-        ∙ unmoved s s' l l' rest (λ k t e. others t.home (λ same.
+        ∙ unmoved s s' l l' rest alone (λ k t e. others t.home (λ same.
         let h = homed s l k t e in
         let z : None ≡ Some h.0 = sym fresh ∙ ap (home_at s.charges) (sym same) ∙ h.1 in
         cc))

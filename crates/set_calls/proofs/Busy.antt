@@ -12,14 +12,15 @@ use Rattle.pids_charge.specs.Charges.{stands, live_at, home_id, is_occupied}
 use Rattle.pids_charge.proofs.Sums.{sum-zero, sum_by-places}
 use Rattle.task_tree.specs.declared.Task.{Task}
 use Rattle.task_tree.specs.Tree.{task_at, lives}
-use Rattle.task_table.specs.Store.{Store, lives_in}
+use Rattle.task_table.specs.Store.{Store, lives_in, HasNoThreads}
 use Rattle.task_table.proofs.Changes.{live_some}
+use Rattle.task_table.proofs.Counts.{live-alone}
 use Rattle.task_table.specs.View.{row_of, state_of}
 use Rattle.task_table.specs.Lawful.{IsLawful}
 use Rattle.task_table.proofs.LookUps.{in-rows, rows-in}
 use Rattle.task_table.proofs.InUse.{live-home}
 
-module _ (s : Store) (l : IsLawful s) (c : ℕ) (standing : stands s.charges c ≡ true) where
+module _ (s : Store) (l : IsLawful s) (alone : HasNoThreads s.threads) (c : ℕ) (standing : stands s.charges c ≡ true) where
   abbrev lives_here : Row → Bool
   lives_here row = (row.home == home_id s.charges c) && is_live row
 
@@ -35,7 +36,7 @@ module _ (s : Store) (l : IsLawful s) (c : ℕ) (standing : stands s.charges c �
   -- where no such row is there is no such task
   nobody : list_any lives_here (state_of s).rows ≡ false → live_at s.charges c ≡ 0
   nobody none =
-      l.agree.live c ∙ sum_by-places (λ o. cond {A = ℕ} (lives_in c o) 1 0) None s.tree.tasks
+      live-alone s l alone c ∙ sum_by-places (λ o. cond {A = ℕ} (lives_in c o) 1 0) None s.tree.tasks
       ∙ sum-zero (length s.tree.tasks) (λ k. cond {A = ℕ} (lives_in c (task_at s.tree k)) 1 0) (λ k. ap (λ (b : Bool). cond {A = ℕ} b 1 0) (each k (task_at s.tree k) refl))
     where
       each : (k : ℕ) (o : Option Task) → task_at s.tree k ≡ o → lives_in c (task_at s.tree k) ≡ false

@@ -9,7 +9,7 @@ use Rattle.pid_numbers.specs.Numbering.{number_of}
 use Rattle.task_tree.specs.declared.Task.{Task}
 use Rattle.task_tree.specs.Tree.{task_at, parent_of}
 use Rattle.pids_charge.specs.Charges.{Home, home_at, kept, handed_on, home_id}
-use Rattle.task_table.specs.Store.{Store, IsLess}
+use Rattle.task_table.specs.Store.{Store, IsLess, HasNoThreads}
 use Rattle.task_table.specs.View.{row_of, row_with, state_of}
 use Rattle.task_table.specs.Lawful.{IsLawful}
 use Rattle.task_table.specs.Whole.{HasParents}
@@ -41,22 +41,22 @@ module _ (s s' : Store) (l : IsLawful s) (l' : IsLawful s') (rest : s' ≡ recor
           ∙ sym (ap (λ o. option_map (in_home f) (option_map (row_of s k) o)) e)
 
   -- so is the model's state, with the control groups
-  pub rehomed : (f : ℕ → ℕ) → ((k : ℕ) (t : Task) → task_at s.tree k ≡ Some t → home_id s'.charges t.home ≡ f (home_id s.charges t.home))
+  pub rehomed : HasNoThreads s.threads → (f : ℕ → ℕ) → ((k : ℕ) (t : Task) → task_at s.tree k ≡ Some t → home_id s'.charges t.home ≡ f (home_id s.charges t.home))
       → sweep (record (state_of s) { rows = map (in_home f) (state_of s).rows; controls = s'.charges.controls }) ≡ state_of s'
-  rehomed f homes =
-      swept s.numbering l.numbering s' l' (subst (IsLess s.numbering) (sym (ap (λ x. x.numbering) rest)) (IsLess-same s.numbering l.numbering))
+  rehomed alone f homes =
+      swept s.numbering l.numbering s' l' (subst HasNoThreads (sym (ap (λ x. x.threads) rest)) alone) (subst (IsLess s.numbering) (sym (ap (λ x. x.numbering) rest)) (IsLess-same s.numbering l.numbering))
       (record (state_of s) { rows = map (in_home f) (state_of s).rows; controls = s'.charges.controls }) (sym (rows-rehomed f homes)) refl refl refl refl (sym (ap (λ x. x.numbering.pid_max) rest))
 
   -- where each task is in the control group that it was in, these alone are different
-  pub unmoved : ((k : ℕ) (t : Task) → task_at s.tree k ≡ Some t → home_at s'.charges t.home ≡ home_at s.charges t.home) → sweep (record (state_of s) { controls = s'.charges.controls }) ≡ state_of s'
-  unmoved homes =
+  pub unmoved : HasNoThreads s.threads → ((k : ℕ) (t : Task) → task_at s.tree k ≡ Some t → home_at s'.charges t.home ≡ home_at s.charges t.home) → sweep (record (state_of s) { controls = s'.charges.controls }) ≡ state_of s'
+  unmoved alone homes =
       ap (λ (rows : List Row). sweep (record (state_of s) { rows = rows; controls = s'.charges.controls })) (sym (map-id (state_of s).rows))
-      ∙ rehomed (λ i. i) (λ k t e. ap (λ o. option_map_or (λ h. h.id) o 0) (homes k t e))
+      ∙ rehomed alone (λ i. i) (λ k t e. ap (λ o. option_map_or (λ h. h.id) o 0) (homes k t e))
 
   -- the tasks of a control group that was removed are in its parent
-  pub handed : (from to : ℕ) → ((k : ℕ) → home_at s'.charges k ≡ option_and_then (handed_on from to) (home_at s.charges k))
+  pub handed : HasNoThreads s.threads → (from to : ℕ) → ((k : ℕ) → home_at s'.charges k ≡ option_and_then (handed_on from to) (home_at s.charges k))
       → sweep (record (state_of s) { rows = map (in_home (λ i. if i == from then to else i)) (state_of s).rows; controls = s'.charges.controls }) ≡ state_of s'
-  handed from to homes = rehomed (λ i. if i == from then to else i) (λ k t e.
+  handed alone from to homes = rehomed alone (λ i. if i == from then to else i) (λ k t e.
       let h = homed s l k t e in
       ap (λ o. option_map_or (λ h. h.id) o 0) (homes t.home ∙ ap (option_and_then (handed_on from to)) h.1) ∙ id_of h.0 h.2 ∙ sym (ap (λ o. if option_map_or (λ h. h.id) o 0 == from then to else option_map_or (λ h. h.id) o 0) h.1))
     where

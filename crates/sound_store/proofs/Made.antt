@@ -21,7 +21,7 @@ use Rattle.task_tree.specs.Tree.{task_at, parent_of, lives}
 use Rattle.groups_sessions.specs.Membership.{Membership, membership_at, group_of, session_of}
 use Rattle.pids_charge.specs.Charges.{home_id}
 use Rattle.task_table.specs.declared.view.Found.{Found}
-use Rattle.task_table.specs.Store.{Store}
+use Rattle.task_table.specs.Store.{Store, HasNoThreads}
 use Rattle.task_table.specs.View.{name_at, row_of, row_numbered, parent_id, space_of, state_of}
 use Rattle.task_table.specs.Lawful.{IsLawful}
 use Rattle.task_table.specs.Whole.{IsWhole}
@@ -118,9 +118,9 @@ module _ (s : Store) (l : IsLawful s) where
       let one = some_of y.0.session x.0.session (sym (ap (option_map (λ (m : Membership). m.session)) y.1) ∙ l.together j.0 x.0 x.1 k.0 in_it) in
       ap (λ (r : Row). r.session) j.3 ∙ session-of j.0 x.0 x.1 j.1 ∙ ap (name_at s.numbering) (sym one) ∙ sym (session-of k.0 y.0 y.1 k.1) ∙ sym (ap (λ (r : Row). r.session) k.3)
 
-  pub named_by : (x : Space) → IsIn x (state_of s).spaces → x.fallen ≡ true → (a : Name) × (n : ℕ) × IsIn a (names_in_use (state_of s).rows) × (number (state_of s).spaces a x.id ≡ Some n)
+  pub named_by : HasNoThreads s.threads → (x : Space) → IsIn x (state_of s).spaces → x.fallen ≡ true → (a : Name) × (n : ℕ) × IsIn a (names_in_use (state_of s).rows) × (number (state_of s).spaces a x.id ≡ Some n)
   unfolding taken_in
-  named_by x i fell =
+  named_by alone x i fell =
       let k = space-from s.numbering l.numbering x i in
       let is_fallen : has_fallen_at s.numbering k.0 ≡ true = sym (ap (λ (y : Space). y.fallen) k.2) ∙ fell in
       let n = first_of (filter_map (number_in (path_at s.numbering) k.0) s.numbering.names) (l.numbering.held k.0 is_fallen) in
@@ -128,7 +128,7 @@ module _ (s : Store) (l : IsLawful s) where
       let p = place-of None o.0 s.numbering.names o.1 in
       let at : number_of s.numbering p.0 k.0 ≡ Some n.0 = ap (number_in (path_at s.numbering) k.0) p.2 ∙ o.2 in
       let u = there (identifier_at s.numbering p.0) n.0 k.0 at in
-      (name_at s.numbering p.0, n.0, used-in s l p.0 u.0 u.1, number-is_key s.numbering l.numbering k.0 x.id p.0 u.0 k.1 u.1 ∙ at)
+      (name_at s.numbering p.0, n.0, used-in s l alone p.0 u.0 u.1, number-is_key s.numbering l.numbering k.0 x.id p.0 u.0 k.1 u.1 ∙ at)
     where
       first_of : (ns : List ℕ) → 0 < length ns → (n : ℕ) × IsIn n ns
       first_of [] some = absurd (omega (arith, some))
@@ -333,8 +333,9 @@ module _ (s : Store) (l : IsLawful s) where
                   subst (IsGoodParent (state_of s).rows (state_of s).spaces (row_of s k t)) (ap (λ o. option_map_or (λ (x : Name). x) o a) z) (good_parent k t e p at)
 
 -- the store is whole
-pub whole-from : (s : Store) → IsLawful s → HasGoodSpaces s → HasGoodControls s.charges → AllTasksPass s → HasWays s → IsWhole s
-whole-from s l spaces_good controls_good tasks_good ways = record {
+pub whole-from : (s : Store) → IsLawful s → HasNoThreads s.threads → HasGoodSpaces s → HasGoodControls s.charges → AllTasksPass s → HasWays s → IsWhole s
+whole-from s l alone spaces_good controls_good tasks_good ways = record {
+  alone = alone;
   sound = record {
     coherent = record {
       distinct = distinct s l;
@@ -355,7 +356,7 @@ whole-from s l spaces_good controls_good tasks_good ways = record {
       left = λ name i. absurd i;
       left_rise = tt;
     };
-    named = named_by s l;
+    named = named_by s l alone;
   };
   parents = λ k p up. ap is_some (tasked s l tasks_good k p up).1;
 }

@@ -7,7 +7,7 @@
 
 ghost use Rattle.std.specs.Prelude.{◌≡◌, ◌≢◌, OnOk, IfErr};
 ghost use Rattle.sound_store.specs.Flaws.{IsFlaw};
-ghost use Rattle.task_table.specs.Whole.{IsWhole};
+ghost use Rattle.task_table.specs.{Store.{HasNoThreads}, Whole.{IsWhole}};
 
 mod chains;
 mod controls;
@@ -62,6 +62,7 @@ pub enum Flaw {
 /// namespace, two searches by id for each task, and a step for each level above a control group. The walks up from
 /// parent to parent are one step for each task in all, and where a chain does not end at most `pid_max` more.
 pub fn check_sound(alloc: Global, store: &Tasks) -> Result<(), Flaw>
+    requires { HasNoThreads store.now.threads }
     ensures sound { OnOk result (IsWhole store.now) }
     ensures flaw { IfErr result (λ flaw. flaw ≢ Flaw.NoMemory → IsWhole store.now → ⊥) }
     ensures told { IfErr result (λ flaw. IsFlaw store.now flaw) }

@@ -11,7 +11,7 @@ use Rattle.model_laws.proofs.Chains.{climb-None}
 use Rattle.model_laws.proofs.Lists.{IsIn-map, IsIn-from_map}
 use Rattle.model_laws.proofs.Rising.{find-key}
 use Rattle.pid_types.specs.declared.call.Kind.TheVariants.{Task, Group, Session}
-use Rattle.pid_numbers.specs.Numbering.{Numbering, Identifier, IsNumberUsedAs, id_at, identifier_at, is_used, is_used_as, number_of, path_at}
+use Rattle.pid_numbers.specs.Numbering.{Numbering, Identifier, IsNumberOfThread, IsNumberUsedAs, id_at, identifier_at, is_thread, is_used_as, number_of, path_at}
 use Rattle.pid_numbers.specs.Restore.{MayFall, is_flagged}
 use Rattle.task_table.specs.Lawful.{HasLaws, IsLawful}
 use Rattle.task_table.specs.Store.{Store}
@@ -64,19 +64,19 @@ module _ (b : Numbering) (l : HasLaws b) (spaces : List Space) (listed : map ste
             ap (is_flagged flags) (sym (l.ids k.0 s x.id k.1 id)) ∙ k.2 fell
         inside s outer up on x i id false stands = absurd (let z = sym on ∙ (each x i).stands s outer id stands up in cc)
 
--- a number that is in use is so as something
-pub used-as : (b : Numbering) → HasLaws b → (i s n : ℕ) → number_of b i s ≡ Some n
-    → IsNumberUsedAs b Task s n ⊎ (IsNumberUsedAs b Group s n ⊎ IsNumberUsedAs b Session s n)
-used-as b l i s n e =
+-- a number that is in use is so as something, or is a thread's
+pub used-as : (b : Numbering) (i s n : ℕ) → number_of b i s ≡ Some n
+    → IsNumberUsedAs b Task s n ⊎ (IsNumberUsedAs b Group s n ⊎ (IsNumberUsedAs b Session s n ⊎ IsNumberOfThread b s n))
+used-as b i s n e =
     let u = numbered b (identifier_at b i) s n e in
-    go u.0 u.1 (l.used i u.0 u.1) (u.0.tasks == 0) refl (u.0.groups == 0) refl (u.0.sessions == 0) refl
+    go u.0 u.1 (u.0.tasks == 0) refl (u.0.groups == 0) refl (u.0.sessions == 0) refl
   where
-    go : (u : Identifier) → identifier_at b i ≡ Some u → is_used u ≡ true → (t : Bool) → (u.tasks == 0) ≡ t → (g : Bool) → (u.groups == 0) ≡ g → (f : Bool) → (u.sessions == 0) ≡ f
-        → IsNumberUsedAs b Task s n ⊎ (IsNumberUsedAs b Group s n ⊎ IsNumberUsedAs b Session s n)
-    go u at used false t g gs f fs = inl (record { key = i; has = e; used = ap (is_used_as Task) at ∙ ap not t })
-    go u at used true t false gs f fs = inr (inl (record { key = i; has = e; used = ap (is_used_as Group) at ∙ ap not gs }))
-    go u at used true t true gs false fs = inr (inr (record { key = i; has = e; used = ap (is_used_as Session) at ∙ ap not fs }))
-    go u at used true t true gs true fs = absurd (let z = sym used ∙ ap (λ x. not (x && ((u.groups == 0) && (u.sessions == 0)))) t ∙ ap (λ x. not (x && (u.sessions == 0))) gs ∙ ap not fs in cc)
+    go : (u : Identifier) → identifier_at b i ≡ Some u → (t : Bool) → (u.tasks == 0) ≡ t → (g : Bool) → (u.groups == 0) ≡ g → (f : Bool) → (u.sessions == 0) ≡ f
+        → IsNumberUsedAs b Task s n ⊎ (IsNumberUsedAs b Group s n ⊎ (IsNumberUsedAs b Session s n ⊎ IsNumberOfThread b s n))
+    go u at false t g gs f fs = inl (record { key = i; has = e; used = ap (is_used_as Task) at ∙ ap not t })
+    go u at true t false gs f fs = inr (inl (record { key = i; has = e; used = ap (is_used_as Group) at ∙ ap not gs }))
+    go u at true t true gs false fs = inr (inr (inl (record { key = i; has = e; used = ap (is_used_as Session) at ∙ ap not fs })))
+    go u at true t true gs true fs = inr (inr (inr (record { key = i; has = e; thread = ap is_thread at ∙ ap (λ x. not (not (x && ((u.groups == 0) && (u.sessions == 0))))) t ∙ ap (λ x. not (not (x && (u.sessions == 0)))) gs ∙ ap (λ x. not (not x)) fs })))
 
 -- in a store of a sound state without threads each line may have what it says
 module _ (s : Store) (l : IsLawful s) (text : State) (sound : IsSound text) (listed : map steady (spaces_of s.numbering) ≡ map undrawn text.spaces) (rows : (state_of s).rows ≡ text.rows)

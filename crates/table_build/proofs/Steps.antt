@@ -111,6 +111,7 @@ moved-both a b c m n = record {
   tree = n.tree ∙ m.tree;
   members = n.members ∙ m.members;
   charges = n.charges ∙ m.charges;
+  threads = n.threads ∙ m.threads;
 }
 
 pub same_falls : (b c : Numbering) → KeepsSpaces b c → (s : ℕ) → has_fallen_at c s ≡ has_fallen_at b s
@@ -190,6 +191,7 @@ cursor-moved s t space cursor names order namespaces bound rest = record {
   tree = ap (λ x. x.tree) rest;
   members = ap (λ x. x.members) rest;
   charges = ap (λ x. x.charges) rest;
+  threads = ap (λ x. x.threads) rest;
 }
   where
     same : (p : ℕ) (o : Option Namespace) → option_map without_cursor (option_map (cursor_put space cursor p) o) ≡ option_map without_cursor o
@@ -197,7 +199,7 @@ cursor-moved s t space cursor names order namespaces bound rest = record {
     same p (Some t) = refl
 
 pub moved-none : (s : Store) → MovesCursors s s
-moved-none s = record { spaces = record { order = refl; bound = refl; each = λ p. refl }; names = refl; tree = refl; members = refl; charges = refl }
+moved-none s = record { spaces = record { order = refl; bound = refl; each = λ p. refl }; names = refl; tree = refl; members = refl; charges = refl; threads = refl }
 
 -- a task that came moved only cursors of namespaces
 pub come-spaces : (b c : Numbering) (path numbers : List ℕ) → c.order ≡ b.order → c.pid_max ≡ b.pid_max

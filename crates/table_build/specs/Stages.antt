@@ -65,6 +65,7 @@ pub record MovesCursors (old new : Store) : Type 0 where
   pub tree : new.tree ≡ old.tree
   pub members : new.members ≡ old.members
   pub charges : new.charges ≡ old.charges
+  pub threads : new.threads ≡ old.threads
 
 -- nothing is different but the namespaces
 pub record ChangesSpaces (old new : Store) : Type 0 where

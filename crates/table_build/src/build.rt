@@ -2,7 +2,7 @@
 ghost use Rattle.std.specs.Prelude.{◌≡◌, map, IfOk, OnOk};
 ghost use Rattle.{
   pid_types.specs.Sound.{IsSound},
-  task_table.specs.{View.{spaces_of, state_of}, Whole.{HasParents}},
+  task_table.specs.{Store.{HasNoThreads}, View.{spaces_of, state_of}, Whole.{HasParents}},
   table_text.specs.Reading.{saved_state},
   table_build.specs.{Bare.{undrawn}, Kept.{HasNobody}, Parts.{HasParts}, Stages.{KeepsPlaces, Blames}},
   table_build.specs.Tables.{IsOfTables},
@@ -46,12 +46,15 @@ fn put_tasks(alloc: Global, store: &mut Tasks, saved: &Saved) -> Result<(), Buil
     ensures rows { OnOk result ((state_of store.new).rows ≡ saved.now.rows) }
     ensures places { OnOk result (KeepsPlaces store.old store.new) }
     ensures kin { OnOk result (HasParents store.new) }
+    ensures alone { OnOk result (HasNoThreads store.new.threads) }
     ensures refused { Blames result (IsSound (saved_state saved.now)
         → HasParts store.old (saved_state saved.now) → ⊥) }
 {
     let mut placed = begin_tasks(alloc, store, saved)?;
     enter_sessions(store, &mut placed, saved)?;
     settle_tasks(store, &placed, saved)?;
+    laws(store);
+    store.thread_laws();
     remove_placeholders(store, &placed);
     laws(store);
     Ok(())
@@ -62,6 +65,7 @@ fn put_tasks(alloc: Global, store: &mut Tasks, saved: &Saved) -> Result<(), Buil
 pub fn build(alloc: Global, saved: &Saved) -> Result<Tasks, BuildFault>
     ensures state { IfOk result (λ store. state_of store ≡ saved_state saved.now) }
     ensures kin { IfOk result (λ store. HasParents store) }
+    ensures alone { IfOk result (λ store. HasNoThreads store.threads) }
     ensures refused { Blames result (IsOfTables (saved_state saved.now) → ⊥) }
 {
     let mut store = put_places(alloc, saved)?;

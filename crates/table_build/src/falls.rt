@@ -3,7 +3,7 @@ ghost use Rattle.std.specs.Prelude.{◌≡◌, ◌≢◌, ◌↔◌, ◌≤◌, 
 ghost use Rattle.std.specs.Prelude.{OnErr, IfOk};
 ghost use Rattle.{
   pid_types.specs.{Sound.{IsSound}, declared.plain.Space.{Space}},
-  pid_numbers.specs.{Numbering.{IsNumberUsedAs, id_at, number_of, path_at}, Restore.{is_flagged}},
+  pid_numbers.specs.{Numbering.{IsNumberOfThread, IsNumberUsedAs, id_at, number_of, path_at}, Restore.{is_flagged}},
   table_text.specs.Reading.{saved_state},
   task_table.specs.View.{spaces_of, state_of},
   table_build.specs.Bare.{AddsFlag, AreFlagged, HasCursor, MayHaveFall, MayHaveFalls, undrawn, steady},
@@ -65,18 +65,27 @@ fn has_kind(store: &Tasks, key: SpaceKey, kind: Kind) -> bool
     store.numbers().next_used(key, kind, 0).is_some()
 }
 
+/// Whether a number of the namespace is a thread's.
+fn has_thread(store: &Tasks, key: SpaceKey) -> bool
+    ensures { IsTrue result ↔ ((n : ℕ) × IsNumberOfThread store.now.numbering key n) }
+{
+    store.numbers().next_thread(key, 0).is_some()
+}
+
 /// Whether a number of the namespace is in use.
 fn has_numbers(store: &Tasks, key: SpaceKey) -> bool
     ensures { IsTrue result ↔ ((i : ℕ) × (n : ℕ) × (number_of store.now.numbering i key ≡ Some n)) }
 {
-    laws(store);
     if has_kind(store, key, Kind::Task) {
         return true;
     }
     if has_kind(store, key, Kind::Group) {
         return true;
     }
-    has_kind(store, key, Kind::Session)
+    if has_kind(store, key, Kind::Session) {
+        return true;
+    }
+    has_thread(store, key)
 }
 
 /// Whether the namespace around the one with the key has a flag.

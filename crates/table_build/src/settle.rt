@@ -215,6 +215,7 @@ fn drop_placeholder(store: &mut Tasks, placed: &Placed, key: TaskKey)
     requires { IsSettled store.old placed.now }
     ensures keeps { KeepsSettled store.old store.new placed.now }
     ensures gone { is_held placed.now key ≡ true → row_with store.new key ≡ None }
+    ensures threads { store.new.threads ≡ store.old.threads }
     ensures stays { (k : ℕ) → row_with store.old k ≡ None → row_with store.new k ≡ None }
 {
     if !placed.is_placeholder(key) {
@@ -234,6 +235,7 @@ pub fn remove_placeholders(store: &mut Tasks, placed: &Placed)
     requires few { HasFew placed.now }
     ensures keeps { KeepsSettled store.old store.new placed.now }
     ensures gone { (k : ℕ) → is_held placed.now k ≡ true → row_with store.new k ≡ None }
+    ensures threads { store.new.threads ≡ store.old.threads }
 {
     for place in 0..placed.placeholders.len() {
         if let Ok(key) = u32::try_from(place) {

@@ -2,7 +2,7 @@
 ghost use Rattle.std.specs.Prelude.{◌≡◌, ◌≢◌, IfOk, IfErr, OnOk};
 ghost use Rattle.{
   pid_types.specs.Sound.{IsSound, IsBelow},
-  task_table.specs.Whole.{IsWhole},
+  task_table.specs.{Store.{HasNoThreads}, Whole.{IsWhole}},
   table_build.specs.Tables.{IsOfTables},
   table_load.specs.{Faults.{IsOfForm}, Texts.{IsTextOfNoTable}},
   table_text.specs.{Ranges.{IsStateOfWords, IsWord}, Reading.{IsNoText, saved_state}, Texts.{text_of}},
@@ -53,6 +53,7 @@ pub fn load(alloc: Global, text: &[u8]) -> Result<Loaded, RestoreFault>
 
 /// Sees that the store is sound. The error is the fault that its first flaw is, with its line.
 fn check_store(alloc: Global, store: &Tasks, saved: &Saved) -> Result<(), RestoreFault>
+    requires { HasNoThreads store.now.threads }
     ensures sound { OnOk result (IsWhole store.now) }
     ensures form { IfErr result (λ fault. IsOfForm fault → ⊥) }
     ensures refused { IfErr result (λ fault. fault ≢ RestoreFault.NoMemory → IsWhole store.now → ⊥) }

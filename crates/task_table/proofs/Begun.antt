@@ -9,22 +9,22 @@ use Rattle.task_tree.specs.Tree.{TreeOfTasks, task_at}
 use Rattle.groups_sessions.specs.Membership.{Membership, membership_at}
 use Rattle.pids_charge.specs.Charges.{Charges, Home, home_at, tasks_of, live_at, zombies_at, all_tasks}
 use Rattle.process_threads.specs.Threads.{ThreadsByKey}
-use Rattle.task_table.specs.Store.{IsStore, uses_at, one_if, is_in_group, is_in_session, lives_in, waits_in}
+use Rattle.task_table.specs.Store.{IsStore, uses_at, one_if, is_in_group, is_in_session, lives_in, waits_in, is_homed}
 
 pub nothing : {X : Type 0} (xs : List X) → length xs ≡ 0 → xs ≡ []
 nothing [] e = refl
 nothing (x ∷ xs) e = absurd (omega (arith, e))
 
 pub IsStore-empty : (b : Numbering) (tree : TreeOfTasks) (members : List (Option Membership)) (charges : Charges) (threads : ThreadsByKey) → ((i : ℕ) → identifier_at b i ≡ None) → length tree.tasks ≡ 0 → members ≡ []
-    → ((k : ℕ) → tasks_of (home_at charges k) ≡ 0) → all_tasks charges ≡ 0 → IsStore (record { numbering = b; tree = tree; members = members; charges = charges; threads = threads })
-IsStore-empty b tree members charges threads names tasks none homes all = record {
+    → threads.threads ≡ [] → ((k : ℕ) → tasks_of (home_at charges k) ≡ 0) → all_tasks charges ≡ 0 → IsStore (record { numbering = b; tree = tree; members = members; charges = charges; threads = threads })
+IsStore-empty b tree members charges threads names tasks none alone homes all = record {
   tasks = λ i. unused AsTask i ∙ sym (ap (λ o. one_if (is_some o)) (vacant i));
   groups = λ i. unused Group i ∙ sym (ap (count_by (is_in_group i)) none);
   sessions = λ i. unused Session i ∙ sym (ap (count_by (is_in_session i)) none);
   members = λ k. ap (λ l. is_some (membership_at l k)) none ∙ sym (ap is_some (vacant k));
-  live = λ c. (empty c).0 ∙ sym (ap (count_by (lives_in c)) empty_tasks);
+  live = λ c. let a = (empty c).0 in let b = ap (count_by (lives_in c)) empty_tasks in let d = ap (count_by (is_homed c)) alone in omega (arith, a, b, d);
   zombies = λ c. (empty c).1 ∙ sym (ap (count_by (waits_in c)) empty_tasks);
-  all = all ∙ sym (ap (count_by is_some) empty_tasks);
+  all = let b = ap (count_by is_some) empty_tasks in let d = ap (count_by is_some) alone in omega (arith, all, b, d);
   ranks = λ k p r e u is. absurd (let z = sym (names p) ∙ is in cc);
 }
   where

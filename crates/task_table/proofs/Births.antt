@@ -12,19 +12,19 @@ use Rattle.task_tree.specs.declared.Task.{Task}
 use Rattle.task_tree.specs.Tree.{TreeOfTasks, task_at, parent_of, rank_of, waits_for, lives}
 use Rattle.pids_charge.specs.Charges.{Home, home_at, stands, all_tasks, ChangesHome}
 use Rattle.groups_sessions.specs.Membership.{Membership, membership_at}
-use Rattle.task_table.specs.Store.{Store, IsStore, IsSame, uses_at, one_if, is_kind, is_in_group, is_in_session, lives_in, waits_in, bare, bare_at, joins, use_of}
+use Rattle.task_table.specs.Store.{Store, IsStore, IsSame, uses_at, one_if, is_kind, is_used_at, is_in_group, is_in_session, lives_in, waits_in, bare, bare_at, joins, use_of}
 use Rattle.task_table.proofs.Less.{AreRanks, ranked_task}
 use Rattle.task_table.proofs.Changes.{IsStore-changed}
 use Rattle.task_table.proofs.HomeCounts as homes
 
--- the identifiers that a new task's group and session are named after are there
+-- the identifiers that a new task's group and session are named after are used
 pub joined-named : (b : Numbering) (members : List (Option Membership)) (from : Option ℕ) (key g s : ℕ) → joins members from key ≡ Some (record { group = g; session = s })
-    → IsSome (identifier_at b key) → ((k : ℕ) (m : Membership) → membership_at members k ≡ Some m → IsSome (identifier_at b m.group) × IsSome (identifier_at b m.session))
-    → IsSome (identifier_at b g) × IsSome (identifier_at b s)
+    → is_used_at b key ≡ true → ((k : ℕ) (m : Membership) → membership_at members k ≡ Some m → (is_used_at b m.group ≡ true) × (is_used_at b m.session ≡ true))
+    → (is_used_at b g ≡ true) × (is_used_at b s ≡ true)
 joined-named b members None key g s e own named =
     let group : key ≡ g = ap (λ o. option_map_or (λ (m : Membership). m.group) o 0) e in
     let session : key ≡ s = ap (λ o. option_map_or (λ (m : Membership). m.session) o 0) e in
-    (subst (λ (i : ℕ). IsSome (identifier_at b i)) group own, subst (λ (i : ℕ). IsSome (identifier_at b i)) session own)
+    (subst (λ (i : ℕ). is_used_at b i ≡ true) group own, subst (λ (i : ℕ). is_used_at b i ≡ true) session own)
 joined-named b members (Some p) key g s e own named = named p (record { group = g; session = s }) e
 
 no_and : (b : Bool) → one_if (b && false) ≡ 0
@@ -121,13 +121,14 @@ pub born : (s s' : Store) → IsStore s → (b : Numbering) (key : ℕ) (from : 
     → key < length s.tree.tasks → key < length s.members → lives task ≡ true → ((p : ℕ) → from ≡ Some p → IsSome (membership_at s.members p))
     → ((k : Kind) (i : ℕ) → uses_at b k i ≡ uses_at s.numbering k i + one_if ((i == key) && is_kind k AsTask))
     → ((k : Kind) (i : ℕ) → uses_at s'.numbering k i ≡ uses_at b k i + use_of (joins s.members from key) k i)
-    → s'.tree.tasks ≡ slice_set s.tree.tasks key (Some task) → s'.members ≡ slice_set s.members key (joins s.members from key)
+    → s'.tree.tasks ≡ slice_set s.tree.tasks key (Some task) → s'.members ≡ slice_set s.members key (joins s.members from key) → s'.threads ≡ s.threads
     → ChangesHome s.charges s'.charges task.home (option_map (λ (h : Home). record h { live = h.live + 1 }) (home_at s.charges task.home)) → stands s.charges task.home ≡ true
     → all_tasks s'.charges ≡ all_tasks s.charges + 1 → AreRanks s'.numbering s'.tree → IsStore s'
-born s s' w b key from task vacant free task_room member_room live there drawn settled tasks members charged up all ranks =
+born s s' w b key from task vacant free task_room member_room live there drawn settled tasks members threads charged up all ranks =
     IsStore-changed s s' w key (Some task) (joins s.members from key) (record {
       tasks = tasks;
       members = members;
+      threads = threads;
       task_room = task_room;
       member_room = member_room;
       both = joined-some s.members from key there;

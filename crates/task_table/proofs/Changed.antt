@@ -15,7 +15,7 @@ use Rattle.task_tree.specs.declared.Task.{Task}
 use Rattle.task_tree.specs.Tree.{task_at, parent_of}
 use Rattle.groups_sessions.specs.Membership.{membership_at, group_of, session_of}
 use Rattle.pids_charge.specs.Charges.{Home, home_at, after_move, home_id}
-use Rattle.task_table.specs.Store.{Store, IsLess, IsSame}
+use Rattle.task_table.specs.Store.{Store, HasNoThreads, IsLess, IsSame}
 use Rattle.task_table.proofs.Changes.{in_range}
 use Rattle.task_table.specs.Collect.{collect}
 use Rattle.task_table.specs.View.{name_at, key_numbered, row_of, row_with, row_numbered, spaces_of, state_of}
@@ -59,12 +59,12 @@ IsLess-same b h = record {
         there (Some t) e = refl
 
 -- a state without threads whose rows are a store's, and whose namespaces those before some went, is swept to the store's
-pub swept : (m : Numbering) → HasLaws m → (s' : Store) → IsLawful s' → IsLess m s'.numbering → (state : State) → state.rows ≡ (state_of s').rows → state.threads ≡ [] → state.left ≡ []
+pub swept : (m : Numbering) → HasLaws m → (s' : Store) → IsLawful s' → HasNoThreads s'.threads → IsLess m s'.numbering → (state : State) → state.rows ≡ (state_of s').rows → state.threads ≡ [] → state.left ≡ []
     → state.spaces ≡ spaces_of m
     → state.controls ≡ s'.charges.controls → state.pid_max ≡ s'.numbering.pid_max → sweep state ≡ state_of s'
 unfolding sweep
-swept m h s' l' less state rows threads left spaces controls bound =
-    let stay = spaces-swept m h s' l' less state rows threads spaces in
+swept m h s' l' alone less state rows threads left spaces controls bound =
+    let stay = spaces-swept m h s' l' alone less state rows threads spaces in
     λ i. record { rows = rows i; threads = threads i; left = left i; spaces = stay i; controls = controls i; pid_max = bound i }
 
 -- the names of who is left are as they were
@@ -119,10 +119,10 @@ module _ (s s' : Store) (l : IsLawful s) (l' : IsLawful s') (k : ℕ) (t t' : Ta
   others_same j m = ap (option_map (row_of s' j)) (task-others j m) ∙ ap (λ (f : Task → Row). option_map f (task_at s.tree j)) (λ i v. row-same j v i)
 
   -- the model's row of the task is changed, and nothing else
-  pub retasked : (h : Row → Row) → h (row_of s k t) ≡ row_of s k t' → sweep (with_row (state_of s) (name_at s.numbering k) h) ≡ state_of s'
+  pub retasked : HasNoThreads s'.threads → (h : Row → Row) → h (row_of s k t) ≡ row_of s k t' → sweep (with_row (state_of s) (name_at s.numbering k) h) ≡ state_of s'
   unfolding with_row
-  retasked h changes =
-      swept s.numbering l.numbering s' l' (subst (IsLess s.numbering) (sym r.numbering) (IsLess-same s.numbering l.numbering)) (record (state_of s) { rows = map (on_row (name_at s.numbering k) h) (state_of s).rows })
+  retasked alone h changes =
+      swept s.numbering l.numbering s' l' alone (subst (IsLess s.numbering) (sym r.numbering) (IsLess-same s.numbering l.numbering)) (record (state_of s) { rows = map (on_row (name_at s.numbering k) h) (state_of s).rows })
       (sym (rows-on s s' l l' (ap (λ b. b.pid_max) r.numbering) (λ j v e. ap (λ b. number_of b j 0) r.numbering) k t h at
       (ap (option_map (row_of s' k)) task-set ∙ ap Some (row-same k t' ∙ sym changes)) others_same))
       refl refl refl (sym r.controls) (sym (ap (λ b. b.pid_max) r.numbering))

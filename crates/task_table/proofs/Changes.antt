@@ -1,4 +1,4 @@
--- The four parts agree after a change at one key.
+-- The parts agree after a change at one key.
 use Rattle.std.proofs.Common.{◌≡◌, ◌≢◌, ◌⊎◌, inl, inr, ℕ, ◌+◌, ◌<◌, ◌==◌, ◌&&◌, not, Bool, true, false, List, length, get_or, set, count_by, Option, Some, None, option_map, is_some, IsSome, if◌then◌else◌, cond, refl, sym, ap, ◌∙◌, arith}
 use Rattle.std.specs.Prelude.{slice_set, slice_index_or}
 use Rattle.std.specs.Option.{option_map_or}
@@ -12,7 +12,7 @@ use Rattle.task_tree.specs.Tree.{TreeOfTasks, task_at, parent_of, rank_of, waits
 use Rattle.groups_sessions.specs.Membership.{Membership, membership_at}
 use Rattle.pids_charge.specs.Charges.{live_at, zombies_at, all_tasks}
 use Rattle.task_table.proofs.Less.{AreRanks}
-use Rattle.task_table.specs.Store.{Store, uses_at, one_if, is_in_group, is_in_session, lives_in, waits_in, IsStore}
+use Rattle.task_table.specs.Store.{Store, uses_at, one_if, is_in_group, is_in_session, lives_in, waits_in, threads_homed, all_threads, IsStore}
 
 -- one element changed: the count changes by what it is and was
 pub count-set : {X : Type 0} (p : X → Bool) (xs : List X) (k : ℕ) (y d : X) → k < length xs → count_by p (set xs k y) + one_if (p (get_or xs k d)) ≡ count_by p xs + one_if (p y)
@@ -22,6 +22,7 @@ count-set p xs k y d lt = sum_by-set (λ x. cond (p x) 1 0) xs k y d lt
 pub record IsChange (s s' : Store) (key : ℕ) (t : Option Task) (m : Option Membership) : Type 0 where
   pub tasks : s'.tree.tasks ≡ slice_set s.tree.tasks key t
   pub members : s'.members ≡ slice_set s.members key m
+  pub threads : s'.threads ≡ s.threads
   pub task_room : key < length s.tree.tasks
   pub member_room : key < length s.members
   pub both : is_some m ≡ is_some t
@@ -41,15 +42,23 @@ counted p xs ys k y d is lt was now before change =
     let f = ap (count_by p) is in
     omega (arith, e, f, before, change)
 
+-- the same where others are counted beside
+beside : {X : Type 0} (p : X → Bool) (xs ys : List X) (k : ℕ) (y d : X) → ys ≡ slice_set xs k y → k < length xs → (more less was now : ℕ) → more ≡ less → was ≡ count_by p xs + less
+    → now + one_if (p (get_or xs k d)) ≡ was + one_if (p y) → now ≡ count_by p ys + more
+beside p xs ys k y d is lt more less was now same before change =
+    let e = count-set p xs k y d lt in
+    let f = ap (count_by p) is in
+    omega (arith, e, f, before, change, same)
+
 pub IsStore-changed : (s s' : Store) → IsStore s → (key : ℕ) (t : Option Task) (m : Option Membership) → IsChange s s' key t m → IsStore s'
 IsStore-changed s s' w key t m c = record {
   tasks = λ i. task_is i (cases_eq i key);
   groups = λ i. counted (is_in_group i) s.members s'.members key m None c.members c.member_room _ _ (w.groups i) (c.as_group i);
   sessions = λ i. counted (is_in_session i) s.members s'.members key m None c.members c.member_room _ _ (w.sessions i) (c.as_session i);
   members = λ k. member_is k (cases_eq k key);
-  live = λ h. counted (lives_in h) s.tree.tasks s'.tree.tasks key t None c.tasks c.task_room _ _ (w.live h) (c.live h);
+  live = λ h. beside (lives_in h) s.tree.tasks s'.tree.tasks key t None c.tasks c.task_room _ _ _ _ (ap (λ l. threads_homed l h) c.threads) (w.live h) (c.live h);
   zombies = λ h. counted (waits_in h) s.tree.tasks s'.tree.tasks key t None c.tasks c.task_room _ _ (w.zombies h) (c.zombies h);
-  all = counted is_some s.tree.tasks s'.tree.tasks key t None c.tasks c.task_room _ _ w.all c.all;
+  all = beside is_some s.tree.tasks s'.tree.tasks key t None c.tasks c.task_room _ _ _ _ (ap all_threads c.threads) w.all c.all;
   ranks = c.ranks;
 }
   where
@@ -99,16 +108,17 @@ member_there s w key task e = w.members key ∙ ap is_some e
 
 -- another task at a key, with the same membership
 pub retasked : (s s' : Store) → IsStore s → (key : ℕ) (old new : Task) → task_at s.tree key ≡ Some old
-    → s'.numbering ≡ s.numbering → s'.members ≡ s.members → s'.tree.tasks ≡ slice_set s.tree.tasks key (Some new)
+    → s'.numbering ≡ s.numbering → s'.members ≡ s.members → s'.threads ≡ s.threads → s'.tree.tasks ≡ slice_set s.tree.tasks key (Some new)
     → ((c : ℕ) → live_at s'.charges c + one_if (lives_in c (Some old)) ≡ live_at s.charges c + one_if (lives_in c (Some new)))
     → ((c : ℕ) → zombies_at s'.charges c + one_if (waits_in c (Some old)) ≡ zombies_at s.charges c + one_if (waits_in c (Some new)))
     → all_tasks s'.charges ≡ all_tasks s.charges
     → ((k p r : ℕ) → rank_of s'.tree k ≡ Some (p, r) → (u : Identifier) → identifier_at s'.numbering p ≡ Some u → number_of s'.numbering k u.space ≡ Some r)
     → IsStore s'
-retasked s s' w key old new there numbering members tasks live zombies all ranks =
+retasked s s' w key old new there numbering members threads tasks live zombies all ranks =
     IsStore-changed s s' w key (Some new) (membership_at s.members key) (record {
       tasks = tasks;
       members = members ∙ sym (set-get_or s.members key None);
+      threads = threads;
       task_room = in_range s.tree.tasks key (ap is_some there);
       member_room = in_range s.members key (member_there s w key old there);
       both = w.members key ∙ ap is_some there;

@@ -11,15 +11,16 @@ use Rattle.pid_numbers.specs.Numbering.{number_of}
 use Rattle.task_tree.specs.declared.Task.{Task}
 use Rattle.task_tree.specs.Tree.{task_at, lives}
 use Rattle.pids_charge.specs.Sums.{sum_below}
-use Rattle.pids_charge.specs.Charges.{home_at, tasks_of, charged_count, home_id}
+use Rattle.pids_charge.specs.Charges.{home_at, live_at, tasks_of, charged_count, home_id}
 use Rattle.pids_charge.proofs.Sums.{sum-ext, sum-at, sum-zero, sum_by-places}
 use Rattle.pids_charge.proofs.Listed.{count-listed, tasks_of-both}
-use Rattle.task_table.specs.Store.{Store, lives_in, waits_in}
+use Rattle.task_table.specs.Store.{Store, HasNoThreads, lives_in, waits_in, is_homed}
 use Rattle.task_table.specs.Collect.{collect}
 use Rattle.task_table.specs.View.{key_numbered, row_of, row_with, row_numbered, state_of}
 use Rattle.task_table.specs.Lawful.{IsLawful}
 use Rattle.task_table.proofs.Keys.{key-some, key-none}
 use Rattle.task_table.proofs.LookUps.{named, root-number}
+use Rattle.task_table.proofs.Threaded.{nobody}
 
 sum-plus : (n : ℕ) (f g : ℕ → ℕ) → sum_below n (λ k. f k + g k) ≡ sum_below n f + sum_below n g
 sum-plus zero f g = refl
@@ -140,16 +141,20 @@ module _ (s : Store) (l : IsLawful s) where
   twice true = refl
   twice false = refl
 
-  homes : (k : ℕ) → count_by (λ t. t.home == k) tasks_in_rows ≡ tasks_of (home_at s.charges k)
-  homes k = tasks_of-both (λ (t : Task). t.home) (λ t. not (lives t)) s.charges k tasks_in_rows
-      (count-keys (λ t. not (not (lives t)) && (t.home == k)) (lives_in k) refl (λ t. flip (t.home == k) (lives t) ∙ ap (λ b. b && (t.home == k)) (sym (twice (lives t)))) ∙ sym (l.agree.live k))
+  -- where no thread is beside a first one the live tasks are those by key
+  pub live-alone : HasNoThreads s.threads → (k : ℕ) → live_at s.charges k ≡ count_by (lives_in k) s.tree.tasks
+  live-alone alone k = let a = l.agree.live k in let b = nobody s.threads alone (is_homed k) refl in omega (arith, a, b)
+
+  homes : HasNoThreads s.threads → (k : ℕ) → count_by (λ t. t.home == k) tasks_in_rows ≡ tasks_of (home_at s.charges k)
+  homes alone k = tasks_of-both (λ (t : Task). t.home) (λ t. not (lives t)) s.charges k tasks_in_rows
+      (count-keys (λ t. not (not (lives t)) && (t.home == k)) (lives_in k) refl (λ t. flip (t.home == k) (lives t) ∙ ap (λ b. b && (t.home == k)) (sym (twice (lives t)))) ∙ sym (live-alone alone k))
       (count-keys (λ t. not (lives t) && (t.home == k)) (waits_in k) refl (λ t. flip (t.home == k) (not (lives t))) ∙ sym (l.agree.zombies k))
 
-  -- a count is the model's
-  pub count-is : (id : ℕ) → charged_count s.charges id ≡ count_in (state_of s) id
+  -- where no thread is beside a first one a count is the model's
+  pub count-is : HasNoThreads s.threads → (id : ℕ) → charged_count s.charges id ≡ count_in (state_of s) id
   unfolding count_in
-  count-is id =
-      count-listed (λ (t : Task). t.home) s.charges tasks_in_rows homes id
+  count-is alone id =
+      count-listed (λ (t : Task). t.home) s.charges tasks_in_rows (homes alone) id
       ∙ length-filter (λ t. is_below s.charges.controls (home_id s.charges t.home) id) tasks_in_rows
       ∙ count-all (λ t. is_below s.charges.controls (home_id s.charges t.home) id) task_numbered s.numbering.pid_max
       ∙ sum-ext s.numbering.pid_max (λ n. option_map_or (λ t. cond {A = ℕ} (is_below s.charges.controls (home_id s.charges t.home) id) 1 0) (task_numbered n) 0)

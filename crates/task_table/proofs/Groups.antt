@@ -68,6 +68,7 @@ rejoined s w key m n is b uses members changed ranks =
     IsStore-changed s (record s { numbering = b; members = members }) w key (task_at s.tree key) (Some n) (record {
       tasks = sym (set-get_or s.tree.tasks key None);
       members = changed;
+      threads = refl;
       task_room = in_range s.tree.tasks key (sym (w.members key) ∙ ap is_some is);
       member_room = in_range s.members key (ap is_some is);
       both = sym (sym (w.members key) ∙ ap is_some is);
@@ -119,15 +120,16 @@ UsesLeft b c key m = (k : Kind) (i : ℕ) → uses_at c k i + one_if ((i == key)
 
 -- a task is gone
 pub left : (s s' : Store) → IsStore s → (key : ℕ) (task : Task) (m : Membership) → task_at s.tree key ≡ Some task → membership_at s.members key ≡ Some m
-    → s'.tree.tasks ≡ slice_set s.tree.tasks key None → s'.members ≡ slice_set s.members key None
+    → s'.tree.tasks ≡ slice_set s.tree.tasks key None → s'.members ≡ slice_set s.members key None → s'.threads ≡ s.threads
     → UsesLeft s.numbering s'.numbering key m
     → ((c : ℕ) → live_at s'.charges c + one_if (lives_in c (Some task)) ≡ live_at s.charges c)
     → ((c : ℕ) → zombies_at s'.charges c + one_if (waits_in c (Some task)) ≡ zombies_at s.charges c)
     → all_tasks s'.charges + 1 ≡ all_tasks s.charges → AreRanks s'.numbering s'.tree → IsStore s'
-left s s' w key task m there is tasks members uses live zombies all ranks =
+left s s' w key task m there is tasks members threads uses live zombies all ranks =
     IsStore-changed s s' w key None None (record {
       tasks = tasks;
       members = members;
+      threads = threads;
       task_room = in_range s.tree.tasks key (ap is_some there);
       member_room = in_range s.members key (ap is_some is);
       both = refl;

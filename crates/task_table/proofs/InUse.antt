@@ -14,14 +14,15 @@ use Rattle.pid_types.specs.Membership.{IsIn}
 use Rattle.pid_types.specs.State.{root_name}
 use Rattle.pid_types.specs.Names.{names_in_use}
 use Rattle.model_laws.proofs.Names.{user_of_name, own_name_in_use, group_in_use, session_in_use}
-use Rattle.pid_numbers.specs.Numbering.{Identifier, identifier_at, uses, is_used_as}
+use Rattle.pid_numbers.specs.Numbering.{Identifier, identifier_at, uses, is_used_as, is_used}
 use Rattle.task_tree.specs.declared.Task.{Task}
 use Rattle.task_tree.specs.Tree.{task_at, lives}
 use Rattle.groups_sessions.specs.Membership.{Membership, membership_at}
-use Rattle.task_table.specs.Store.{Store, uses_at, one_if, is_in_group, is_in_session}
+use Rattle.task_table.specs.Store.{Store, HasNoThreads, uses_at, one_if, is_in_group, is_in_session, is_used_at}
 use Rattle.pids_charge.specs.Charges.{Home, home_at, stands, live_at, zombies_at}
 use Rattle.task_table.proofs.Changes.{live_some, zombie_some}
 use Rattle.task_table.proofs.Groups.{group_used, session_used}
+use Rattle.task_table.proofs.Threaded.{used-as}
 use Rattle.task_table.specs.View.{name_at, row_of, state_of}
 use Rattle.task_table.specs.Lawful.{IsLawful}
 use Rattle.task_table.proofs.LookUps.{named, group-named, session-named, in-rows, rows-in}
@@ -142,9 +143,9 @@ module _ (s : Store) (l : IsLawful s) where
           let u = session-named s l k m at in
           (m.session, u.0, u.1, counted Session m.session u.0 u.1 (session_used s l.agree k m at), ap (λ (x : Row). x.session) is ∙ ap (λ o. option_map_or (name_at s.numbering) (option_map (λ m. m.session) o) root_name) at)
 
-  -- and each identifier's name is in use
-  pub used-in : (i : ℕ) (v : Identifier) → identifier_at s.numbering i ≡ Some v → IsIn (name_at s.numbering i) (names_in_use (state_of s).rows)
-  used-in i v e = go (v.tasks == 0) refl (v.groups == 0) refl (v.sessions == 0) refl (l.numbering.used i v e)
+  -- and where no thread is beside a first one each identifier's name is in use
+  pub used-in : HasNoThreads s.threads → (i : ℕ) (v : Identifier) → identifier_at s.numbering i ≡ Some v → IsIn (name_at s.numbering i) (names_in_use (state_of s).rows)
+  used-in alone i v e = go (v.tasks == 0) refl (v.groups == 0) refl (v.sessions == 0) refl (l.used alone i v e)
     where
       by : (kind : Kind) → is_used_as kind (Some v) ≡ true → ((r : Row) → IsIn r (state_of s).rows → IsIn (name_by kind r) (names_in_use (state_of s).rows)) → IsIn (name_at s.numbering i) (names_in_use (state_of s).rows)
       by kind h in_use = let r = user kind i v e h in subst (λ (a : Name). IsIn a (names_in_use (state_of s).rows)) r.2 (in_use r.0 r.1)
@@ -155,6 +156,14 @@ module _ (s : Store) (l : IsLawful s) where
       go true is false bs c cs h = by Group (ap not bs) (group_in_use (state_of s).rows)
       go true is true bs false cs h = by Session (ap not cs) (session_in_use (state_of s).rows)
       go true is true bs true cs h = absurd (let z : false ≡ true = sym (ap (λ x. not (x && ((v.groups == 0) && (v.sessions == 0)))) is ∙ ap (λ x. not (true && (x && (v.sessions == 0)))) bs ∙ ap (λ x. not (true && (true && x))) cs) ∙ h in cc)
+
+  -- a task's identifier is used
+  pub task-used : (i : ℕ) → is_some (task_at s.tree i) ≡ true → is_used_at s.numbering i ≡ true
+  task-used i there = used-as s.numbering AsTask i (let y = l.agree.tasks i in let z = ap one_if there in omega (arith, y, z))
+
+  -- and an identifier that is there is used
+  pub used-here : HasNoThreads s.threads → (i : ℕ) → is_some (identifier_at s.numbering i) ≡ true → is_used_at s.numbering i ≡ true
+  used-here alone i some = let v = held (identifier_at s.numbering i) some in ap (λ o. option_map_or is_used o false) v.1 ∙ l.used alone i v.0 v.1
 
   -- the control group of a task is there, and that of a live task stands
   pub homed : (k : ℕ) (t : Task) → task_at s.tree k ≡ Some t → (h : Home) × (home_at s.charges t.home ≡ Some h) × (0 < h.live + h.zombies)

@@ -20,7 +20,8 @@ pub mod Rest
 pub mod Births
 pub mod Seated
 pub mod Newborn
-pub mod NoThreads
+pub mod Threaded
+pub mod ThreadChanges
 pub mod Regrouped
 pub mod Gone
 pub mod Housed

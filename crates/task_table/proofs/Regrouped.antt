@@ -11,7 +11,7 @@ use Rattle.pids_charge.specs.Charges.{home_id}
 use Rattle.task_tree.specs.declared.Task.{Task}
 use Rattle.task_tree.specs.Tree.{task_at, parent_of}
 use Rattle.groups_sessions.specs.Membership.{Membership, membership_at}
-use Rattle.task_table.specs.Store.{Store, IsLess}
+use Rattle.task_table.specs.Store.{Store, IsLess, HasNoThreads}
 use Rattle.task_table.proofs.Changes.{in_range}
 use Rattle.task_table.proofs.Less.{number-less}
 use Rattle.task_table.specs.View.{name_at, row_of, row_with, state_of}
@@ -75,11 +75,11 @@ module _ (s s' : Store) (l : IsLawful s) (l' : IsLawful s') (parents : HasParent
           ∙ sym (ap (option_map (row_of s j)) e)
 
   -- the model's row of the task has the group and the session, and what nothing uses any more is swept
-  pub regrouped : (h : Row → Row) → h (row_of s k t) ≡ record (row_of s k t) { group = name_at s.numbering m.group; session = name_at s.numbering m.session }
+  pub regrouped : HasNoThreads s'.threads → (h : Row → Row) → h (row_of s k t) ≡ record (row_of s k t) { group = name_at s.numbering m.group; session = name_at s.numbering m.session }
       → sweep (with_row (state_of s) (name_at s.numbering k) h) ≡ state_of s'
   unfolding with_row
-  regrouped h changes =
-      swept s.numbering l.numbering s' l' r.numbers (record (state_of s) { rows = map (on_row (name_at s.numbering k) h) (state_of s).rows })
+  regrouped alone h changes =
+      swept s.numbering l.numbering s' l' alone r.numbers (record (state_of s) { rows = map (on_row (name_at s.numbering k) h) (state_of s).rows })
       (sym (rows-on s s' l l' r.numbers.bound
       (λ j v e. let u = named s' l' j v e in number-less s.numbering l.numbering.full l.numbering.own s'.numbering r.numbers j u.0 u.1 0) k t h at (here ∙ ap Some (sym changes)) others))
       refl refl refl (sym (ap (λ c. c.controls) r.charges)) (sym r.numbers.bound)

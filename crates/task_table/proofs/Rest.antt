@@ -13,7 +13,7 @@ use Rattle.std.specs.Prelude.{OnOk, OnErr}
 use Rattle.pid_types.specs.Controls.{parent_control}
 use Rattle.pid_types.specs.declared.reply.Refusal.{Refusal}
 use Rattle.pid_types.specs.declared.reply.Refusal.TheVariants.{ControlBusy, RootControl}
-use Rattle.task_table.specs.Store.{Store, IsStore, IsSame, uses_at, one_if, is_in_group, is_in_session, lives_in, waits_in}
+use Rattle.task_table.specs.Store.{Store, IsStore, IsSame, uses_at, one_if, is_in_group, is_in_session, lives_in, waits_in, threads_homed, all_threads}
 use Rattle.task_table.proofs.HomeCounts.{kept-live, kept-zombies}
 
 -- the control groups' tasks by key are as many
@@ -114,9 +114,19 @@ roomier s s' w same = record {
   groups = λ i. ap (λ b. uses_at b Group i) same.numbering ∙ w.groups i ∙ sym (count-pointwise (is_in_group i) refl s'.members s.members same.members);
   sessions = λ i. ap (λ b. uses_at b Session i) same.numbering ∙ w.sessions i ∙ sym (count-pointwise (is_in_session i) refl s'.members s.members same.members);
   members = λ k. ap is_some (same.members k) ∙ w.members k ∙ sym (ap is_some (same.tasks k));
-  live = λ c. ap (λ v. live_at v c) same.charges ∙ w.live c ∙ sym (count-pointwise (lives_in c) refl s'.tree.tasks s.tree.tasks same.tasks);
+  live = λ c.
+      let a = ap (λ v. live_at v c) same.charges in
+      let b = w.live c in
+      let d = count-pointwise (lives_in c) refl s'.tree.tasks s.tree.tasks same.tasks in
+      let e = ap (λ l. threads_homed l c) same.threads in
+      omega (arith, a, b, d, e);
   zombies = λ c. ap (λ v. zombies_at v c) same.charges ∙ w.zombies c ∙ sym (count-pointwise (waits_in c) refl s'.tree.tasks s.tree.tasks same.tasks);
-  all = ap all_tasks same.charges ∙ w.all ∙ sym (count-pointwise is_some refl s'.tree.tasks s.tree.tasks same.tasks);
+  all =
+      let a = ap all_tasks same.charges in
+      let b = w.all in
+      let d = count-pointwise is_some refl s'.tree.tasks s.tree.tasks same.tasks in
+      let e = ap all_threads same.threads in
+      omega (arith, a, b, d, e);
   ranks = λ k p r e u is. ap (λ b. number_of b k u.space) same.numbering ∙ w.ranks k p r (sym (same.ranks k) ∙ e) u (sym (ap (λ b. identifier_at b p) same.numbering) ∙ is);
 }
 

@@ -3,7 +3,6 @@ use Rattle.std.proofs.Common.{◌≡◌, inl, ℕ, zero, suc, ◌<◌, Bool, tru
 use Rattle.std.specs.Prelude.{reverse, slice_index_or, filter_map}
 use Rattle.std.specs.Option.{option_map_or}
 use Rattle.std.specs.List.{AllByRecursion, cons_option}
-use Rattle.pid_types.specs.declared.plain.Row.{Row}
 use Rattle.pid_types.specs.declared.plain.Name.{Name}
 use Rattle.pid_types.specs.Membership.{IsIn}
 use Rattle.pid_types.specs.State.{State, root_name}
@@ -11,7 +10,7 @@ use Rattle.pid_types.specs.Names.{beside, in_use, names_in_use, number, taken}
 use Rattle.pid_types.specs.Outcome.{is_dead as is_dead_in}
 use Rattle.model_laws.proofs.Lists.{IsIn-filter_map, IsIn-from_filter_map}
 use Rattle.pid_numbers.specs.Numbering.{Numbering, Namespace, Identifier, namespace_at, id_at, identifier_at, number_in, path_at, taken_in, is_deserted, is_there}
-use Rattle.task_table.specs.Store.{Store, IsLess}
+use Rattle.task_table.specs.Store.{Store, IsLess, HasNoThreads}
 use Rattle.task_table.proofs.Less.{was, stays, some_taken}
 use Rattle.task_table.specs.View.{name_of, name_at, parent_id, space_of, spaces_of, state_of}
 use Rattle.task_table.specs.Lawful.{HasLaws, IsLawful}
@@ -56,7 +55,7 @@ same_zero (suc a) zero f g = absurd (let h = f (omega arith) in omega (arith, h)
 same_zero (suc a) (suc b) f g = (let x : (suc a == 0) ≡ false = grind (arith) in x) ∙ sym (let y : (suc b == 0) ≡ false = grind (arith) in y)
 
 -- a state without threads whose names in use are those of the identifiers that are left, and whose namespaces are those before any went
-module _ (m : Numbering) (h : HasLaws m) (s' : Store) (l' : IsLawful s') (less : IsLess m s'.numbering) (state : State) (rows : state.rows ≡ (state_of s').rows) (threads : state.threads ≡ []) (spaces : state.spaces ≡ spaces_of m) where
+module _ (m : Numbering) (h : HasLaws m) (s' : Store) (l' : IsLawful s') (alone : HasNoThreads s'.threads) (less : IsLess m s'.numbering) (state : State) (rows : state.rows ≡ (state_of s').rows) (threads : state.threads ≡ []) (spaces : state.spaces ≡ spaces_of m) where
   abbrev c : Numbering
   c = s'.numbering
 
@@ -93,7 +92,7 @@ module _ (m : Numbering) (h : HasLaws m) (s' : Store) (l' : IsLawful s') (less :
       let v = there_left s k.0 k.1 k.2 in
       in_some k.1 (filter_map (λ name. number state.spaces name i) (in_use state))
       (IsIn-filter_map (λ name. number state.spaces name i) (name_at c k.0) k.1 (in_use state)
-      (subst (IsIn (name_at c k.0)) (sym names_are) (used-in s' l' k.0 v.0 v.1))
+      (subst (IsIn (name_at c k.0)) (sym names_are) (used-in s' l' alone k.0 v.0 v.1))
       (number_left k.0 v.0 s i at v.1 ∙ k.2)))
 
   -- what is dead in the model goes

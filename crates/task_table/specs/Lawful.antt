@@ -5,12 +5,12 @@ use Rattle.id_slab.specs.Ids.{key_of, AreRising}
 use Rattle.pid_types.specs.Bounds.{deepest_space}
 use Rattle.pid_types.specs.Settings.{HasGoodPidMax}
 use Rattle.pid_types.specs.Chains.{contains}
-use Rattle.pid_numbers.specs.Numbering.{Numbering, Identifier, identifier_at, id_at, number_of, path_at, taken_in, has_fallen_at, is_used}
+use Rattle.pid_numbers.specs.Numbering.{Numbering, Identifier, identifier_at, id_at, number_of, path_at, taken_in, has_fallen_at}
 use Rattle.task_tree.specs.Tree.{task_at, parent_of}
 use Rattle.groups_sessions.specs.Membership.{Membership, membership_at, AreInSession}
 use Rattle.pid_types.specs.Controls.{control_at}
 use Rattle.pids_charge.specs.Charges.{stands, live_at, home_id}
-use Rattle.task_table.specs.Store.{Store, IsStore}
+use Rattle.task_table.specs.Store.{Store, IsStore, HasNoThreads, AreUsed}
 
 -- what is true of identifiers and namespaces
 pub record HasLaws (b : Numbering) : Type 0 where
@@ -19,7 +19,6 @@ pub record HasLaws (b : Numbering) : Type 0 where
   pub full : (i : ℕ) (u : Identifier) → identifier_at b i ≡ Some u → (0 < length u.numbers)
       × (length u.numbers ≡ length (path_at b u.space))
   pub good : HasGoodPidMax b.pid_max
-  pub used : (i : ℕ) (u : Identifier) → identifier_at b i ≡ Some u → is_used u ≡ true
   pub root : path_at b 0 ≡ 0 ∷ []
   pub own : (s : ℕ) → 0 < length (path_at b s) → slice_index_or (path_at b s) 0 0 ≡ s
   pub around : (s j : ℕ) → j < length (path_at b s) → path_at b (slice_index_or (path_at b s) j 0) ≡ drop j (path_at b s)
@@ -42,4 +41,6 @@ pub record IsLawful (s : Store) : Type 0 where
   pub together : (k : ℕ) (m : Membership) → membership_at s.members k ≡ Some m → AreInSession s.members m.group m.session
   pub ended : (c : ℕ) → stands s.charges c ≡ false → live_at s.charges c ≡ 0
   pub controls : (c d : ℕ) → stands s.charges c ≡ true → stands s.charges d ≡ true → home_id s.charges c ≡ home_id s.charges d → c ≡ d
+  -- where no thread is beside a first one something uses each identifier
+  pub used : HasNoThreads s.threads → AreUsed s.numbering
   pub standing : (c : ℕ) → stands s.charges c ≡ true → IsSome (control_at s.charges.controls (home_id s.charges c))

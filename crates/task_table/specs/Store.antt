@@ -1,15 +1,16 @@
 -- What a contract sees of `Tasks`: five parts by key. A task has the key of its identifier.
-use Rattle.std.specs.Prelude.{◌≡◌, ◌≢◌, ℕ, ◌+◌, ◌-◌, ◌==◌, ◌&&◌, not, Bool, true, false, List, count_by, Option, Some, None, option_map, is_some, if◌then◌else◌}
+use Rattle.std.specs.Prelude.{◌≡◌, ◌≢◌, ℕ, ◌+◌, ◌-◌, ◌==◌, ◌&&◌, not, Bool, true, false, List, count_by, Option, Some, None, IsSome, option_map, option_and_then, is_none, is_some, unwrap_or, find, map, if◌then◌else◌}
 use Rattle.std.specs.Option.{option_map_or}
 use Rattle.pid_types.specs.declared.call.Kind.{Kind}
 use Rattle.pid_types.specs.declared.call.Kind.TheVariants.{Task as AsTask, Group, Session}
-use Rattle.pid_numbers.specs.Numbering.{Numbering, Identifier, identifier_at, namespace_at, is_there, is_thread, is_used, number_of, uses, swept_at}
+use Rattle.pid_numbers.specs.Numbering.{Numbering, Identifier, identifier_at, namespace_at, path_at, draw_in, is_there, is_thread, is_used, moved, number_of, uses, swept_at}
 use Rattle.std.specs.List.{filter}
 use Rattle.task_tree.specs.declared.Task.{Task}
 use Rattle.task_tree.specs.Tree.{TreeOfTasks, task_at, parent_of, rank_of, lives}
 use Rattle.groups_sessions.specs.Membership.{Membership, membership_at}
-use Rattle.process_threads.specs.Threads.{ThreadsByKey, thread_with, left_at}
-use Rattle.pids_charge.specs.Charges.{Charges, Home, home_at, ChangesHome, live_at, zombies_at, all_tasks}
+use Rattle.process_threads.specs.declared.Thread.{Thread}
+use Rattle.process_threads.specs.Threads.{ThreadsByKey, thread_with, left_at, KeepsKeys}
+use Rattle.pids_charge.specs.Charges.{Charges, Home, home_at, after_move, kept, ChangesHome, live_at, zombies_at, all_tasks}
 
 -- the identifiers and namespaces, the tree of tasks, their groups and sessions, the control groups, and the threads beside first ones
 pub record Store : Type 0 where
@@ -47,28 +48,44 @@ lives_in c t = option_map_or (λ t. (t.home == c) && lives t) t false
 abbrev pub waits_in : ℕ → Option Task → Bool
 waits_in c t = option_map_or (λ t. (t.home == c) && not (lives t)) t false
 
+-- whether the thread has the control group's key as its home
+abbrev pub is_homed : ℕ → Option Thread → Bool
+is_homed c t = option_map_or (λ t. t.home == c) t false
+
+-- how many threads beside first ones have it
+abbrev pub threads_homed : ThreadsByKey → ℕ → ℕ
+threads_homed threads c = count_by (is_homed c) threads.threads
+
+-- how many threads there are beside first ones
+abbrev pub all_threads : ThreadsByKey → ℕ
+all_threads threads = count_by is_some threads.threads
+
 -- the home with one such task less
 abbrev pub home_without : Task → Home → Home
 home_without t h = if lives t then record h { live = h.live - 1 } else record h { zombies = h.zombies - 1 }
 
--- the first four parts agree
+-- the parts agree
 pub record IsStore (s : Store) : Type 0 where
   -- an identifier's uses are the task at its key, the members of the group and the tasks of the session
   pub tasks : (i : ℕ) → uses_at s.numbering AsTask i ≡ one_if (is_some (task_at s.tree i))
   pub groups : (i : ℕ) → uses_at s.numbering Group i ≡ count_by (is_in_group i) s.members
   pub sessions : (i : ℕ) → uses_at s.numbering Session i ≡ count_by (is_in_session i) s.members
   pub members : (k : ℕ) → is_some (membership_at s.members k) ≡ is_some (task_at s.tree k)
-  -- a control group's tasks are those whose home it is
-  pub live : (c : ℕ) → live_at s.charges c ≡ count_by (lives_in c) s.tree.tasks
+  -- a control group's tasks are those whose home it is: live processes by their first threads, other threads, and zombies
+  pub live : (c : ℕ) → live_at s.charges c ≡ count_by (lives_in c) s.tree.tasks + threads_homed s.threads c
   pub zombies : (c : ℕ) → zombies_at s.charges c ≡ count_by (waits_in c) s.tree.tasks
-  pub all : all_tasks s.charges ≡ count_by is_some s.tree.tasks
+  pub all : all_tasks s.charges ≡ count_by is_some s.tree.tasks + all_threads s.threads
   -- a child that has ended waits by its number in its parent's namespace
   pub ranks : (k p r : ℕ) → rank_of s.tree k ≡ Some (p, r) → (u : Identifier) → identifier_at s.numbering p ≡ Some u
       → number_of s.numbering k u.space ≡ Some r
 
--- an identifier without a use is a thread's. No thread has begun yet, and no first one has left
+-- an identifier without a use is a thread's. No first thread has left yet
 pub record IsThreaded (b : Numbering) (threads : ThreadsByKey) : Type 0 where
   pub held : (i : ℕ) → is_thread (identifier_at b i) ≡ is_some (thread_with threads i)
+  pub stays : (p : ℕ) → left_at threads p ≡ false
+
+-- each process is one thread, its first
+pub record HasNoThreads (threads : ThreadsByKey) : Type 0 where
   pub none : (k : ℕ) → thread_with threads k ≡ None
   pub stays : (p : ℕ) → left_at threads p ≡ false
 
@@ -76,9 +93,37 @@ pub record IsThreaded (b : Numbering) (threads : ThreadsByKey) : Type 0 where
 abbrev pub AreUsed : Numbering → Type 0
 AreUsed b = (i : ℕ) (u : Identifier) → identifier_at b i ≡ Some u → is_used u ≡ true
 
--- no identifier has become a thread's
-abbrev pub MakesNoThread : Numbering → Numbering → Type 0
-MakesNoThread old new = (i : ℕ) → is_thread (identifier_at new i) ≡ true → is_thread (identifier_at old i) ≡ true
+-- whether something uses the identifier with the key
+abbrev pub is_used_at : Numbering → ℕ → Bool
+is_used_at b i = option_map_or is_used (identifier_at b i) false
+
+-- something uses the identifier with the key
+abbrev pub IsUsedAt : Numbering → ℕ → Type 0
+IsUsedAt b i = is_used_at b i ≡ true
+
+-- the thread with the key is this one
+abbrev pub IsThread : ThreadsByKey → ℕ → Thread → Type 0
+IsThread threads key thread = thread_with threads key ≡ Some thread
+
+-- the numbers are those that the namespace, which is there, and those around it give next, innermost first
+pub record AreNextNumbers (b : Numbering) (space : ℕ) (numbers : List ℕ) : Type 0 where
+  pub there : IsSome (namespace_at b space)
+  pub all : find (λ s. is_none (draw_in b s)) (path_at b space) ≡ None
+  pub planned : numbers ≡ map (λ s. unwrap_or (draw_in b s) 0) (path_at b space)
+
+-- a live task's charge is gone
+pub record Uncharges (old new : Charges) (c : ℕ) : Type 0 where
+  pub home : ChangesHome old new c (option_and_then (λ (h : Home). kept (record h { live = h.live - 1 })) (home_at old c))
+  pub tasks : all_tasks new + 1 ≡ all_tasks old
+
+-- a live task's charge went from one home to another
+pub record MovesCharge (old new : Charges) (from to : ℕ) : Type 0 where
+  pub controls : new.controls ≡ old.controls
+  pub homes : (k : ℕ) → home_at new k ≡ option_map (after_move from to k) (home_at old k)
+
+-- the identifiers of threads are those that were
+abbrev pub KeepsThreads : Numbering → Numbering → Type 0
+KeepsThreads old new = (i : ℕ) → is_thread (identifier_at new i) ≡ is_thread (identifier_at old i)
 
 -- the identifier without its uses
 abbrev pub bare : Identifier → Identifier
@@ -132,6 +177,28 @@ pub record Begins (old new : Store) (key : ℕ) (from : Option ℕ) (task : Task
   pub home : ChangesHome old.charges new.charges task.home
       (option_map (λ (h : Home). record h { live = h.live + 1 }) (home_at old.charges task.home))
   pub threads : new.threads ≡ old.threads
+
+-- a new thread has come beside others of its process, with an identifier of its own
+pub record BeginsThread (old new : Store) (key : ℕ) (thread : Thread) (identifier : Identifier) : Type 0 where
+  pub fresh : (thread_with old.threads key ≡ None) × (identifier_at old.numbering key ≡ None)
+  pub named : identifier_at new.numbering key ≡ Some identifier
+  pub names : (i : ℕ) → i ≢ key → identifier_at new.numbering i ≡ identifier_at old.numbering i
+  pub namespaces : (s : ℕ) → namespace_at new.numbering s
+      ≡ option_map (moved (path_at old.numbering identifier.space) identifier.numbers s) (namespace_at old.numbering s)
+  pub order : new.numbering.order ≡ old.numbering.order
+  pub bound : new.numbering.pid_max ≡ old.numbering.pid_max
+  pub begun : IsThread new.threads key thread
+  pub threads : (k : ℕ) → k ≢ key → thread_with new.threads k ≡ thread_with old.threads k
+  pub left : (p : ℕ) → left_at new.threads p ≡ left_at old.threads p
+  pub home : ChangesHome old.charges new.charges thread.home
+      (option_map (λ (h : Home). record h { live = h.live + 1 }) (home_at old.charges thread.home))
+  pub tree : new.tree ≡ old.tree
+  pub members : new.members ≡ old.members
+
+-- nothing is different but the room for threads
+pub record IsSameWithRoom (old new : Store) : Type 0 where
+  pub same : new ≡ record old { threads = new.threads }
+  pub threads : KeepsKeys old.threads new.threads
 
 -- nothing but the part that is named has changed
 abbrev pub ChangesNumbering : Store → Store → Type 0

@@ -20,8 +20,8 @@ ghost use Rattle.{
   pid_numbers.specs.{Numbering.{Identifier, cursor_put}, Restore.{MayFall, is_flagged, fallen_if}},
   task_tree.specs.Tree.{task_at, parent_of, lives, handed},
   groups_sessions.specs.Membership.{Membership, membership_at, group_of, session_of, AreInSession, AreOthersInSession},
-  task_table.specs.Store.{IsStore, AreUsed, IsLess, IsSame, Begins, home_without, ChangesNumbering},
-  task_table.specs.Store.{ChangesCharges, ChangesTree},
+  task_table.specs.Store.{IsStore, IsThreaded, HasNoThreads, IsLess, IsSame, Begins, home_without, ChangesNumbering},
+  task_table.specs.Store.{ChangesCharges, ChangesTree, IsUsedAt},
   task_table.specs.Residents.{AreResidents},
 };
 
@@ -29,6 +29,7 @@ mod homes;
 mod residents;
 mod room;
 mod settle;
+mod threads;
 mod uses;
 pub mod view;
 
@@ -97,6 +98,7 @@ impl Tasks {
         ensures tasks { IfOk result (λ r. (k : ℕ) → task_at r.tree k ≡ None) }
         ensures members { IfOk result (λ r. r.members ≡ []) }
         ensures controls { IfOk result (λ r. r.charges.controls ≡ record { id = 0; parent = None; limit = None } ∷ []) }
+        ensures threads { IfOk result (λ r. HasNoThreads r.threads) }
     {
         Ok(Tasks {
             numbers: Numbers::new(alloc, pid_max)?,
@@ -145,16 +147,16 @@ impl Tasks {
         self.residents.members(home)
     }
 
-    /// What is true at any time; the call does nothing. The first four parts agree.
+    /// What is true at any time; the call does nothing. The parts agree.
     pub fn laws(&self)
         ensures { IsStore self.now }
     {
         let _ = &self.numbers;
     }
 
-    /// What is true at any time; the call does nothing. No identifier is a thread's, as no thread has begun.
+    /// What is true at any time; the call does nothing. The identifiers of threads are those that nothing uses.
     pub fn thread_laws(&self)
-        ensures { AreUsed self.now.numbering }
+        ensures { IsThreaded self.now.numbering self.now.threads }
     {
         let _ = &self.threads;
     }
@@ -262,10 +264,10 @@ impl Tasks {
         self.tree.hand_on(from, to);
     }
 
-    /// A task goes to another group, all of whose members are in its session.
+    /// A task goes to another group, all of whose members are in its session, and which no thread has its number from.
     pub fn set_group(&mut self, key: TaskKey, group: IdentKey)
         requires there { IsSome (membership_at self.old.members key) }
-        requires group { IsSome (identifier_at self.old.numbering group) }
+        requires group { IsUsedAt self.old.numbering group }
         requires room { group < length self.old.members }
         requires together { (s : ℕ) → session_of self.old.members key ≡ Some s → AreInSession self.old.members group s }
         ensures members { self.new.members ≡ slice_set self.old.members key
@@ -286,8 +288,8 @@ impl Tasks {
     /// A task goes to a group in a session, whichever it was in. All others in the group are in that session.
     pub fn move_to(&mut self, key: TaskKey, group: IdentKey, session: IdentKey)
         requires there { IsSome (membership_at self.old.members key) }
-        requires group { IsSome (identifier_at self.old.numbering group) }
-        requires session { IsSome (identifier_at self.old.numbering session) }
+        requires group { IsUsedAt self.old.numbering group }
+        requires session { IsUsedAt self.old.numbering session }
         requires room { group < length self.old.members }
         requires session_room { session < length self.old.members }
         requires together { AreOthersInSession self.old.members key group session }
@@ -513,6 +515,7 @@ impl Tasks {
         self.numbers.laws();
         self.tree.laws();
         self.members.laws();
+        self.threads.laws();
         self.numbers.draw(space, numbers)?;
         settle(
             &mut self.numbers,
@@ -565,6 +568,7 @@ impl Tasks {
         self.numbers.laws();
         self.tree.laws();
         self.members.laws();
+        self.threads.laws();
         let (_, space) = self.numbers.draw_new(outer, id, numbers)?;
         settle(
             &mut self.numbers,

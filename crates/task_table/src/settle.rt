@@ -5,11 +5,10 @@ ghost use Rattle.std.specs.Prelude.{IsSome, slice_set};
 ghost use Rattle.{
   pid_types.specs.declared.call.Kind.{Kind},
   member_lists.specs.Owners.{owner_of},
-  pid_numbers.specs.Numbering.{identifier_at},
   pids_charge.specs.Charges.{Home, home_at, stands, all_tasks, ChangesHome},
   task_tree.specs.Tree.{task_at, parent_of, lives},
   groups_sessions.specs.Membership.{Membership, membership_at, group_of},
-  task_table.specs.Store.{uses_at, one_if, is_kind, bare_at, joins, use_of, MakesNoThread},
+  task_table.specs.Store.{uses_at, one_if, is_kind, IsUsedAt, bare_at, joins, use_of, KeepsThreads},
 };
 
 use crate::uses::add_uses;
@@ -47,9 +46,9 @@ pub(crate) fn settle(
     requires vacant { (task_at tree.old key ≡ None) × (membership_at members.old key ≡ None) }
     requires from { (p : ℕ) → from ≡ Some p → IsSome (membership_at members.old p) × (p < length tree.old.tasks) }
     requires live { lives task ≡ true }
-    requires own { IsSome (identifier_at numbers.old key) }
+    requires own { IsUsedAt numbers.old key }
     requires named { (k : ℕ) (m : Membership) → membership_at members.old k ≡ Some m
-        → IsSome (identifier_at numbers.old m.group) × IsSome (identifier_at numbers.old m.session) }
+        → IsUsedAt numbers.old m.group × IsUsedAt numbers.old m.session }
     requires free { (k : ℕ) → group_of members.old k ≢ Some key }
     requires few { (k : Kind) (i : ℕ) → uses_at numbers.old k i ≤ 2 ^ 30 }
     requires home { stands controls.old task.home ≡ true }
@@ -59,7 +58,7 @@ pub(crate) fn settle(
     ensures uses { (k : Kind) (i : ℕ) → uses_at numbers.new k i
         ≡ uses_at numbers.old k i + use_of (joins members.old from key) k i }
     ensures bare { (i : ℕ) → bare_at numbers.new i ≡ bare_at numbers.old i }
-    ensures no_thread { MakesNoThread numbers.old numbers.new }
+    ensures threads { KeepsThreads numbers.old numbers.new }
     ensures namespaces { numbers.new.namespaces ≡ numbers.old.namespaces }
     ensures order { numbers.new.order ≡ numbers.old.order }
     ensures pid_max { numbers.new.pid_max ≡ numbers.old.pid_max }

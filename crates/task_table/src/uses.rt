@@ -1,10 +1,9 @@
 //! Uses of identifiers, as tasks, groups and sessions.
 
-ghost use Rattle.std.specs.Prelude.{◌≡◌, ℕ, ◌+◌, ◌<◌, ◌≤◌, ◌^◌, ◌==◌, ◌&&◌, IsSome};
+ghost use Rattle.std.specs.Prelude.{◌≡◌, ℕ, ◌+◌, ◌<◌, ◌≤◌, ◌^◌, ◌==◌, ◌&&◌};
 ghost use Rattle.{
   pid_types.specs.declared.call.Kind.{Kind},
-  pid_numbers.specs.Numbering.{identifier_at},
-  task_table.specs.Store.{uses_at, one_if, is_kind, bare_at, IsLess, MakesNoThread},
+  task_table.specs.Store.{uses_at, one_if, is_kind, IsUsedAt, bare_at, IsLess, KeepsThreads},
 };
 
 use pid_numbers::Numbers;
@@ -18,7 +17,7 @@ pub(crate) fn take_use(numbers: &mut Numbers, ident: IdentKey, kind: Kind)
     ensures uses { (k : Kind) (i : ℕ) → uses_at numbers.new k i + one_if ((i == ident) && is_kind k kind)
         ≡ uses_at numbers.old k i }
     ensures less { IsLess numbers.old numbers.new }
-    ensures no_thread { MakesNoThread numbers.old numbers.new }
+    ensures threads { KeepsThreads numbers.old numbers.new }
 {
     numbers.drop_use(ident, kind);
 }
@@ -32,7 +31,7 @@ pub(crate) fn take_uses(numbers: &mut Numbers, group: IdentKey, session: IdentKe
         ((i == group) && is_kind k Kind.Group) + one_if ((i == session) && is_kind k Kind.Session)
         ≡ uses_at numbers.old k i }
     ensures less { IsLess numbers.old numbers.new }
-    ensures no_thread { MakesNoThread numbers.old numbers.new }
+    ensures threads { KeepsThreads numbers.old numbers.new }
 {
     numbers.laws();
     take_use(numbers, group, Kind::Group);
@@ -42,14 +41,14 @@ pub(crate) fn take_uses(numbers: &mut Numbers, group: IdentKey, session: IdentKe
 /// One use more as a group and one as a session.
 #[inline(always)]
 pub(crate) fn add_uses(numbers: &mut Numbers, group: IdentKey, session: IdentKey)
-    requires group { IsSome (identifier_at numbers.old group) }
-    requires session { IsSome (identifier_at numbers.old session) }
+    requires group { IsUsedAt numbers.old group }
+    requires session { IsUsedAt numbers.old session }
     requires few { (k : Kind) (i : ℕ) → uses_at numbers.old k i ≤ 2 ^ 30 }
     ensures uses { (k : Kind) (i : ℕ) → uses_at numbers.new k i
         ≡ uses_at numbers.old k i + one_if ((i == group) && is_kind k Kind.Group) + one_if
         ((i == session) && is_kind k Kind.Session) }
     ensures bare { (i : ℕ) → bare_at numbers.new i ≡ bare_at numbers.old i }
-    ensures no_thread { MakesNoThread numbers.old numbers.new }
+    ensures threads { KeepsThreads numbers.old numbers.new }
     ensures namespaces { numbers.new.namespaces ≡ numbers.old.namespaces }
     ensures order { numbers.new.order ≡ numbers.old.order }
     ensures pid_max { numbers.new.pid_max ≡ numbers.old.pid_max }

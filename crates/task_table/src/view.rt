@@ -10,7 +10,6 @@ ghost use Rattle.{
   pid_numbers.specs.Numbering.{Identifier, id_at, identifier_at, number_of},
   task_tree.specs.{Tree.{task_at, lives}, declared.Task.{Task}},
   task_table.specs.{declared.view.Found.{Found}, View.{name_at, row_of, state_of}, Lawful.{HasLaws, IsLawful}},
-  task_table.specs.Store.{AreUsed},
   task_table.specs.Found.{HasOwnSpace, IsCalling},
 };
 
@@ -42,7 +41,6 @@ pub struct Caller {
 
 /// What is true of the identifiers and namespaces of a store; the call does nothing.
 fn number_laws(numbers: &Numbers)
-    requires { AreUsed numbers.now }
     ensures { HasLaws numbers.now }
 {
     numbers.laws();

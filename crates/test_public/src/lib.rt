@@ -65,6 +65,8 @@ mod snapshots;
 #[cfg(test)]
 mod states;
 #[cfg(test)]
+mod store_threads;
+#[cfg(test)]
 mod texts;
 #[cfg(test)]
 mod threads;

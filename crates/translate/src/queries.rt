@@ -169,7 +169,7 @@ pub(crate) fn get_sid(store: &Tasks, caller: Pid, pid: Pid) -> ShortReply
 
 /// `NSpid` of `proc_pid_status(5)`: writes the target's numbers from the caller's namespace inwards over the first ones
 /// of the room. It answers how many, or the refusal. Behind them are zeroes.
-#[tactic(auto, unfolding(pid_types::specs::Queries::ns_pid, pid_types::specs::Names::task_numbered, pid_types::specs::Threads::process_numbered))]
+#[tactic(auto, unfolding(pid_types::specs::Queries::ns_pid))]
 #[inline(always)]
 pub(crate) fn ns_pid(
     store: &Tasks,

@@ -197,6 +197,7 @@ fn outer_control(store: &Tasks, key: ControlKey) -> Option<u64>
 
 /// A control group with its count.
 fn control_row(store: &Tasks, id: u64, key: ControlKey) -> ControlRow
+    requires whole { IsWhole store.now }
     requires stands { stands store.now.charges key ≡ true }
     requires id { home_id store.now.charges key ≡ id }
     ensures { result ≡ control_row_of (state_of store.now) id }

@@ -1,5 +1,5 @@
 -- What is left in the model when a zombie without children is gone.
-use Rattle.std.proofs.Common.{◌≡◌, ◌≢◌, ℕ, true, false, not, filter, Option, Some, None, is_some, refl, sym, ap, ◌∙◌, option_map}
+use Rattle.std.proofs.Common.{◌≡◌, ◌≢◌, ℕ, true, false, not, filter, Option, Some, None, is_some, refl, sym, ap, subst, ◌∙◌, option_map}
 use Rattle.std.proofs.lemmas.Bool.{eqb-true}
 use Rattle.pid_types.specs.declared.plain.Row.{Row}
 use Rattle.pid_types.specs.Names.{same_name, is_live}
@@ -8,7 +8,7 @@ use Rattle.pid_types.specs.Wait.{without_row}
 use Rattle.model_laws.proofs.Names.{same_name-refl}
 use Rattle.task_tree.specs.declared.Task.{Task}
 use Rattle.task_tree.specs.Tree.{task_at, parent_of, lives}
-use Rattle.task_table.specs.Store.{Store}
+use Rattle.task_table.specs.Store.{Store, HasNoThreads}
 use Rattle.task_table.proofs.Less.{number-less}
 use Rattle.task_table.specs.View.{name_at, row_of, state_of}
 use Rattle.task_table.specs.Lawful.{IsLawful}
@@ -45,10 +45,10 @@ module _ (s s' : Store) (l : IsLawful s) (l' : IsLawful s') (w : IsWhole s) (k :
   parents-left = left.parents-left s s' l l' w.parents k t at alone g
 
   -- the model's state without its row
-  pub reaped : sweep (without_row (state_of s) (row_of s k t)) ≡ state_of s'
+  pub reaped : s'.threads ≡ s.threads → sweep (without_row (state_of s) (row_of s k t)) ≡ state_of s'
   unfolding without_row
-  reaped =
-      swept s.numbering l.numbering s' l' g.numbers (record (state_of s) { rows = filter (λ row. not (same_name row.name (name_at s.numbering k))) (state_of s).rows })
+  reaped same =
+      swept s.numbering l.numbering s' l' (subst HasNoThreads (sym same) w.alone) g.numbers (record (state_of s) { rows = filter (λ row. not (same_name row.name (name_at s.numbering k))) (state_of s).rows })
       (sym (rows-without s s' l l' g.numbers.bound
       (λ j v e. let u = named s' l' j v e in number-less s.numbering l.numbering.full l.numbering.own s'.numbering g.numbers j u.0 u.1 0) k t at (left.gone s s' l l' w.parents k t at alone g) (left.row_left s s' l l' w.parents k t at alone g)))
       refl refl refl (sym g.home.controls) (sym g.numbers.bound)

@@ -20,7 +20,7 @@ id_of-requires c =
     let s = c.args.store.now in
     let full : find (λ q. is_none (draw_in s.numbering q)) (path_at s.numbering c.args.found.now.space) ≡ Some c.in-Err.full =
     ap (λ b. find (λ q. is_none (draw_in b q)) (path_at b c.args.found.now.space)) (sym c.numbers.ensures) ∙ c.in-Err.ensures.err in
-    full-there s c.laws.ensures c.args.found.now.space c.args.found.now.task.children_space c.requires.id (row_of s c.args.found.now.key c.args.found.now.task) c.in-Err.full full
+    full-there s c.laws.ensures c.requires.whole.alone c.args.found.now.space c.args.found.now.task.children_space c.requires.id (row_of s c.args.found.now.key c.args.found.now.task) c.in-Err.full full
 
 pub returns-in-Err-clause-state : goal.returns-in-Err-clause-state
 returns-in-Err-clause-state c =

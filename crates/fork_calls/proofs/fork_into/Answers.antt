@@ -12,7 +12,7 @@ id_of-requires c =
     let s = c.args.store.now in
     let full : find (λ q. is_none (draw_in s.numbering q)) (path_at s.numbering c.args.space) ≡ Some c.in-Err.exhausted =
     ap (λ b. find (λ q. is_none (draw_in b q)) (path_at b c.args.space)) (sym c.numbers.ensures) ∙ c.in-Err.ensures.err in
-    full-there s c.laws.ensures c.args.space c.args.found.now.task.children_space c.requires.id (row_of s c.args.found.now.key c.args.found.now.task) c.in-Err.exhausted full
+    full-there s c.laws.ensures c.requires.whole.alone c.args.space c.args.found.now.task.children_space c.requires.id (row_of s c.args.found.now.key c.args.found.now.task) c.in-Err.exhausted full
 
 pub returns-in-Err-clause-state : goal.returns-in-Err-clause-state
 returns-in-Err-clause-state c =
@@ -20,7 +20,7 @@ returns-in-Err-clause-state c =
     let row = row_of s c.args.found.now.key c.args.found.now.task in
     let full : find (λ q. is_none (draw_in s.numbering q)) (path_at s.numbering c.args.space) ≡ Some c.in-Err.exhausted =
     ap (λ b. find (λ q. is_none (draw_in b q)) (path_at b c.args.space)) (sym c.numbers.ensures) ∙ c.in-Err.ensures.err in
-    let room = room-full s c.laws.ensures c.args.space c.args.found.now.task.children_space c.requires.id row c.in-Err.exhausted c.id_of.result full c.id_of.ensures in
+    let room = room-full s c.laws.ensures c.requires.whole.alone c.args.space c.args.found.now.task.children_space c.requires.id row c.in-Err.exhausted c.id_of.result full c.id_of.ensures in
     let is = ap (λ o. unless_found (state_of s) o (λ r. r) (forked (state_of s) row c.args.found.now.task.children_space)) room in
     sym (ap (λ (o : Outcome). o.state) is)
 
@@ -30,6 +30,6 @@ returns-in-Err-clause-reply c =
     let row = row_of s c.args.found.now.key c.args.found.now.task in
     let full : find (λ q. is_none (draw_in s.numbering q)) (path_at s.numbering c.args.space) ≡ Some c.in-Err.exhausted =
     ap (λ b. find (λ q. is_none (draw_in b q)) (path_at b c.args.space)) (sym c.numbers.ensures) ∙ c.in-Err.ensures.err in
-    let room = room-full s c.laws.ensures c.args.space c.args.found.now.task.children_space c.requires.id row c.in-Err.exhausted c.id_of.result full c.id_of.ensures in
+    let room = room-full s c.laws.ensures c.requires.whole.alone c.args.space c.args.found.now.task.children_space c.requires.id row c.in-Err.exhausted c.id_of.result full c.id_of.ensures in
     let is = ap (λ o. unless_found (state_of s) o (λ r. r) (forked (state_of s) row c.args.found.now.task.children_space)) room in
     sym (ap (λ (o : Outcome). o.reply) is)

@@ -15,7 +15,7 @@ returns-in-None-clause-state c =
     let s = c.args.store.now in
     let row = row_of s c.args.found.now.key c.args.found.now.task in
     let none : draw_in s.numbering 0 ≡ None = ap (λ b. draw_in b 0) (sym c.numbers.ensures) ∙ sym c.plan_one.ensures ∙ c.in-None.is in
-    let room = room-full s c.laws.ensures 0 c.args.found.now.task.children_space c.requires.id row 0 c.id_of.result (root-full s.numbering c.laws.ensures.numbering.root none) c.id_of.ensures in
+    let room = room-full s c.laws.ensures c.requires.whole.alone 0 c.args.found.now.task.children_space c.requires.id row 0 c.id_of.result (root-full s.numbering c.laws.ensures.numbering.root none) c.id_of.ensures in
     let is = ap (λ o. unless_found (state_of s) o (λ r. r) (forked (state_of s) row c.args.found.now.task.children_space)) room in
     sym (ap (λ (o : Outcome). o.state) is)
 
@@ -24,6 +24,6 @@ returns-in-None-clause-reply c =
     let s = c.args.store.now in
     let row = row_of s c.args.found.now.key c.args.found.now.task in
     let none : draw_in s.numbering 0 ≡ None = ap (λ b. draw_in b 0) (sym c.numbers.ensures) ∙ sym c.plan_one.ensures ∙ c.in-None.is in
-    let room = room-full s c.laws.ensures 0 c.args.found.now.task.children_space c.requires.id row 0 c.id_of.result (root-full s.numbering c.laws.ensures.numbering.root none) c.id_of.ensures in
+    let room = room-full s c.laws.ensures c.requires.whole.alone 0 c.args.found.now.task.children_space c.requires.id row 0 c.id_of.result (root-full s.numbering c.laws.ensures.numbering.root none) c.id_of.ensures in
     let is = ap (λ o. unless_found (state_of s) o (λ r. r) (forked (state_of s) row c.args.found.now.task.children_space)) room in
     sym (ap (λ (o : Outcome). o.reply) is)

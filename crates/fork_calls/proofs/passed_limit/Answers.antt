@@ -11,9 +11,9 @@ may_charge-requires c = ap (λ v. stands v c.args.found.now.task.home) c.control
 pub returns-in-Ok : goal.returns-in-Ok
 returns-in-Ok c =
     sym (ap result_err c.in-Ok.is) ∙ c.may_charge.ensures ∙ ap (λ v. charge_refusal v (home_id v c.args.found.now.task.home)) c.controls.ensures
-    ∙ limit-is c.args.store.now c.laws.ensures (home_id c.args.store.now.charges c.args.found.now.task.home)
+    ∙ limit-is c.args.store.now c.laws.ensures c.requires.whole.alone (home_id c.args.store.now.charges c.args.found.now.task.home)
 
 pub returns-in-Err : goal.returns-in-Err
 returns-in-Err c =
     sym (ap result_err c.in-Err.is) ∙ c.may_charge.ensures ∙ ap (λ v. charge_refusal v (home_id v c.args.found.now.task.home)) c.controls.ensures
-    ∙ limit-is c.args.store.now c.laws.ensures (home_id c.args.store.now.charges c.args.found.now.task.home)
+    ∙ limit-is c.args.store.now c.laws.ensures c.requires.whole.alone (home_id c.args.store.now.charges c.args.found.now.task.home)

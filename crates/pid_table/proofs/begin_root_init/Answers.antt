@@ -27,3 +27,6 @@ returns-clause-whole c =
     whole-begun s c.laws.ensures c.requires c.fork.new.self c.laws-2.ensures c.in_ok-fork.field-0 task c.as_slice.result.now c.in_ok-fork.ensures.begun (c.as_slice.ensures.value ∙ planned.1 ∙ numbers-are s c.laws.ensures c.requires)
     c.in_ok-fork.ensures.order c.in_ok-fork.ensures.namespaces c.in-Some.home (ap (λ v. home_id v c.in-Some.home) (sym c.controls.ensures) ∙ c.in-Some.ensures.id) refl
     (c.root_state_is_sound.ensures s.numbering.pid_max 1 c.laws.ensures.numbering.good (omega arith)).0
+
+pub returns-clause-threads : goal.returns-clause-threads
+returns-clause-threads c = c.in_ok-fork.ensures.begun.threads

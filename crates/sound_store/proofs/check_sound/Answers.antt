@@ -51,7 +51,7 @@ pub returns-clause-sound : goal.returns-clause-sound
 returns-clause-sound c =
     let s = c.args.store.now in
     on_ok-map c.check_chains.result (HasWays s) (IsWhole s)
-    (λ ways. whole-from s c.laws.ensures c.in_ok-check_spaces.ensures.ok (subst (λ (v : Charges). HasGoodControls v) c.controls.ensures c.in_ok-check_controls.ensures.ok) c.in_ok-check_tasks.ensures.ok ways)
+    (λ ways. whole-from s c.laws.ensures c.requires c.in_ok-check_spaces.ensures.ok (subst (λ (v : Charges). HasGoodControls v) c.controls.ensures c.in_ok-check_controls.ensures.ok) c.in_ok-check_tasks.ensures.ok ways)
     c.check_chains.ensures.ok
 
 pub returns-clause-told : goal.returns-clause-told

@@ -16,7 +16,7 @@ returns c =
       numbers = c.remove.ensures.numbers;
     } in
     record {
-      state = sym (reaped old new c.laws.ensures c.laws-2.ensures c.requires.whole c.args.child c.args.task c.requires.there c.requires.ended g);
+      state = sym (reaped old new c.laws.ensures c.laws-2.ensures c.requires.whole c.args.child c.args.task c.requires.there c.requires.ended g c.remove.ensures.threads);
       ended = search rules;
       parents = parents-left old new c.laws.ensures c.laws-2.ensures c.requires.whole c.args.child c.args.task c.requires.there c.requires.ended g;
       threads = c.remove.ensures.threads;

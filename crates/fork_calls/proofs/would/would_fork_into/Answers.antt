@@ -17,7 +17,7 @@ id_of-requires c =
     let s = c.args.store.now in
     let full : find (λ q. is_none (draw_in s.numbering q)) (path_at s.numbering c.args.space) ≡ Some c.in-Err.full =
     ap (λ b. find (λ q. is_none (draw_in b q)) (path_at b c.args.space)) (sym c.numbers.ensures) ∙ c.in-Err.ensures.err in
-    full-there s c.laws.ensures c.args.space c.args.found.now.task.children_space c.requires.id (row_of s c.args.found.now.key c.args.found.now.task) c.in-Err.full full
+    full-there s c.laws.ensures c.requires.whole.alone c.args.space c.args.found.now.task.children_space c.requires.id (row_of s c.args.found.now.key c.args.found.now.task) c.in-Err.full full
 
 pub returns-in-Err : goal.returns-in-Err
 returns-in-Err c =
@@ -25,7 +25,7 @@ returns-in-Err c =
     let row = row_of s c.args.found.now.key c.args.found.now.task in
     let full : find (λ q. is_none (draw_in s.numbering q)) (path_at s.numbering c.args.space) ≡ Some c.in-Err.full =
     ap (λ b. find (λ q. is_none (draw_in b q)) (path_at b c.args.space)) (sym c.numbers.ensures) ∙ c.in-Err.ensures.err in
-    let room = room-full s c.laws.ensures c.args.space c.args.found.now.task.children_space c.requires.id row c.in-Err.full c.id_of.result full c.id_of.ensures in
+    let room = room-full s c.laws.ensures c.requires.whole.alone c.args.space c.args.found.now.task.children_space c.requires.id row c.in-Err.full c.id_of.result full c.id_of.ensures in
     sym (ap (λ o. (unless_found (state_of s) o (λ r. r) (forked (state_of s) row c.args.found.now.task.children_space)).reply) room)
 
 pub would_get-requires-clause-some : goal.would_get-requires-clause-some
@@ -46,5 +46,5 @@ returns-in-Ok c =
     let some : 0 < length c.as_slice.result.now =
     subst (λ n. 0 < n) (sym (ap length drew ∙ length-map (path_at s.numbering c.args.space) (λ q. unwrap_or (draw_in s.numbering q) 0))) (l.numbering.some c.args.space t c.requires.id) in
     c.would_get.ensures
-    ∙ would-get s l (state_of s) (IsPlanned-own s l) row t found.space caller.own (own-on_path s l c.requires.whole found.key found.task caller.there c.args.space c.requires.id)
-    c.as_slice.result.now (drew ∙ drew-own s l c.args.space t c.requires.id) some (state_of s) _ (room-ok s l c.args.space t c.requires.id row none)
+    ∙ would-get s l (state_of s) (IsPlanned-own s l c.requires.whole.alone) row t found.space caller.own (own-on_path s l c.requires.whole found.key found.task caller.there c.args.space c.requires.id)
+    c.as_slice.result.now (drew ∙ drew-own s l c.requires.whole.alone c.args.space t c.requires.id) some (state_of s) _ (room-ok s l c.requires.whole.alone c.args.space t c.requires.id row none)

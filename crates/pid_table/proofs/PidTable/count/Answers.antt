@@ -11,4 +11,4 @@ returns-clause-value c =
     c.count.ensures
     ∙ ap (λ (w : Charges). charged_count w (home_id w c.in-Some.key)) (c.controls-2.ensures ∙ sym c.controls.ensures) ∙ ap (charged_count c.controls.result.now) c.in-Some.ensures.id
     ∙ ap (λ (w : Charges). charged_count w c.args.control) c.controls.ensures
-    ∙ count-is s c.laws.ensures c.args.control ∙ ap (λ (t : State). count_of t c.args.control) c.self.view_is
+    ∙ count-is s c.laws.ensures c.self.invariant.alone c.args.control ∙ ap (λ (t : State). count_of t c.args.control) c.self.view_is

@@ -12,4 +12,4 @@ returns c =
     c.count.ensures
     ∙ ap (λ (w : Charges). charged_count w (home_id w c.in-Some.root)) (c.controls-2.ensures ∙ sym c.controls.ensures) ∙ ap (charged_count c.controls.result.now) c.in-Some.ensures.id
     ∙ ap (λ (w : Charges). charged_count w 0) c.controls.ensures
-    ∙ count-is s c.laws.ensures 0 ∙ all-counted (state_of s) c.self.invariant.sound refl ∙ ap (λ (t : State). length t.rows) c.self.view_is
+    ∙ count-is s c.laws.ensures c.self.invariant.alone 0 ∙ all-counted (state_of s) c.self.invariant.sound refl ∙ ap (λ (t : State). length t.rows) c.self.view_is

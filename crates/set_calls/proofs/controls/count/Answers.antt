@@ -15,5 +15,5 @@ returns c =
     let own = ap (λ (v : Charges). home_id v c.in-Some.key) (sym c.controls.ensures) ∙ c.in-Some.ensures.id in
     record {
       state = ap (λ (o : Outcome). o.state) is;
-      reply = sym (ap (λ (o : Outcome). o.reply) is ∙ ap Counted (sym (c.count.ensures ∙ ap (λ (v : Charges). charged_count v (home_id v c.in-Some.key)) c.controls-2.ensures ∙ ap (charged_count s.charges) own ∙ count-is s c.laws.ensures c.args.id)));
+      reply = sym (ap (λ (o : Outcome). o.reply) is ∙ ap Counted (sym (c.count.ensures ∙ ap (λ (v : Charges). charged_count v (home_id v c.in-Some.key)) c.controls-2.ensures ∙ ap (charged_count s.charges) own ∙ count-is s c.laws.ensures c.requires.alone c.args.id)));
     }

@@ -24,7 +24,7 @@ returns-in-Ok-clause-state c =
     let is = ap (λ (v : Charges). home_id v c.in-Some.above) (sym c.controls.ensures) ∙ c.in-Some.ensures.id in
     sym (ap (λ (o : Outcome). o.state) (is-made old c.laws.ensures above c.args.parent standing is there c.args.stamp
     (λ deep. ok_err (c.in-Ok.ensures.deep.1 deep)))
-    ∙ after-making old c.laws.ensures above c.args.parent standing is there new c.laws-in-Ok.ensures c.make_control.ensures.rest c.args.stamp c.in-Ok.field-0 c.in-Ok.ensures.controls c.in-Ok.ensures.fresh c.in-Ok.ensures.others)
+    ∙ after-making old c.laws.ensures above c.args.parent standing is there c.requires.whole.alone new c.laws-in-Ok.ensures c.make_control.ensures.rest c.args.stamp c.in-Ok.field-0 c.in-Ok.ensures.controls c.in-Ok.ensures.fresh c.in-Ok.ensures.others)
 
 pub returns-in-Err-ControlDepth-clause-reply : goal.returns-in-Err-ControlDepth-clause-reply
 unfolding make_control

@@ -18,7 +18,7 @@ refused_here c =
     let there = ap (λ (v : Charges). is_some (control_at v.controls c.args.id)) (sym c.controls.ensures) ∙ c.in-Some.ensures.there in
     let standing = ap (λ (v : Charges). stands v c.in-Some.key) (sym c.controls.ensures) ∙ c.in-Some.ensures.stands in
     let is = ap (λ (v : Charges). home_id v c.in-Some.key) (sym c.controls.ensures) ∙ c.in-Some.ensures.id in
-    not-removed old c.laws.ensures key c.args.id standing is there c.in-Err.refusal (sym c.in-Err.ensures.refusal)
+    not-removed old c.laws.ensures key c.args.id standing is there c.requires.alone c.in-Err.refusal (sym c.in-Err.ensures.refusal)
 
 pub returns-in-Err-clause-state : goal.returns-in-Err-clause-state
 returns-in-Err-clause-state c = ap state_of c.in-Err.ensures.err ∙ sym (ap (λ (o : Outcome). o.state) (refused_here c))
@@ -34,10 +34,10 @@ returns-in-Ok c =
     let there = ap (λ (v : Charges). is_some (control_at v.controls c.args.id)) (sym c.controls.ensures) ∙ c.in-Some.ensures.there in
     let standing = ap (λ (v : Charges). stands v c.in-Some.key) (sym c.controls.ensures) ∙ c.in-Some.ensures.stands in
     let is = ap (λ (v : Charges). home_id v c.in-Some.key) (sym c.controls.ensures) ∙ c.in-Some.ensures.id in
-    let gone = removed old c.laws.ensures key c.args.id standing is there (sym c.in-Ok.ensures.refusal) in
+    let gone = removed old c.laws.ensures key c.args.id standing is there c.requires.alone (sym c.in-Ok.ensures.refusal) in
     record {
       state = sym (ap (λ (o : Outcome). o.state) gone.2
-          ∙ after-removal old c.laws.ensures key c.args.id standing is there new c.laws-in-Ok.ensures c.remove_control.ensures.rest gone.0 c.in-Ok.ensures.controls
+          ∙ after-removal old c.laws.ensures key c.args.id standing is there c.requires.alone new c.laws-in-Ok.ensures c.remove_control.ensures.rest gone.0 c.in-Ok.ensures.controls
           (c.in-Ok.ensures.homes gone.0 (ap (parent_control old.charges.controls) is ∙ gone.1)));
       reply = sym (ap (λ (o : Outcome). o.reply) gone.2);
       parents = parents-rehomed old new c.laws.ensures c.laws-in-Ok.ensures c.remove_control.ensures.rest c.requires.parents;

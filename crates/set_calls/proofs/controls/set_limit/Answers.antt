@@ -15,7 +15,7 @@ returns-in-Ok-clause-state c =
     let standing = ap (λ (v : Charges). stands v c.in-Some.key) (sym c.controls.ensures) ∙ c.in-Some.ensures.stands in
     let is = ap (λ (v : Charges). home_id v c.in-Some.key) (sym c.controls.ensures) ∙ c.in-Some.ensures.id in
     sym (ap (λ (o : Outcome). o.state) (is-limited old c.laws.ensures key c.args.id standing is there c.args.limit (sym c.in-Ok.ensures.refusal))
-    ∙ after-limit old c.laws.ensures key c.args.id standing is there new c.laws-in-Ok.ensures c.set_limit.ensures.rest c.args.limit c.in-Ok.ensures.controls c.set_limit.ensures.homes)
+    ∙ after-limit old c.laws.ensures key c.args.id standing is there c.requires.alone new c.laws-in-Ok.ensures c.set_limit.ensures.rest c.args.limit c.in-Ok.ensures.controls c.set_limit.ensures.homes)
 
 pub returns-in-Ok-clause-threads : goal.returns-in-Ok-clause-threads
 returns-in-Ok-clause-threads c = ap (λ (s : Store). s.threads) c.set_limit.ensures.rest

@@ -14,7 +14,7 @@ returns-in-Err c =
     let standing = ap (λ (v : Charges). stands v key) (sym c.controls.ensures) ∙ c.in-Some.ensures.stands in
     let is = ap (λ (v : Charges). home_id v key) (sym c.controls.ensures) ∙ c.in-Some.ensures.id in
     let why = ap (λ (v : Charges). remove_refusal v key) (sym c.controls-2.ensures) ∙ sym c.in-Err.ensures in
-    sym (ap (λ (o : Outcome). o.reply) (not-removed old c.laws.ensures key c.args.id standing is there c.in-Err.refusal why))
+    sym (ap (λ (o : Outcome). o.reply) (not-removed old c.laws.ensures key c.args.id standing is there c.requires.alone c.in-Err.refusal why))
 
 pub returns-in-Ok : goal.returns-in-Ok
 returns-in-Ok c =
@@ -24,4 +24,4 @@ returns-in-Ok c =
     let standing = ap (λ (v : Charges). stands v key) (sym c.controls.ensures) ∙ c.in-Some.ensures.stands in
     let is = ap (λ (v : Charges). home_id v key) (sym c.controls.ensures) ∙ c.in-Some.ensures.id in
     let none = ap (λ (v : Charges). remove_refusal v key) (sym c.controls-2.ensures) ∙ sym c.in-Ok.ensures in
-    sym (ap (λ (o : Outcome). o.reply) (removed old c.laws.ensures key c.args.id standing is there none).2)
+    sym (ap (λ (o : Outcome). o.reply) (removed old c.laws.ensures key c.args.id standing is there c.requires.alone none).2)

@@ -1,4 +1,4 @@
-use Rattle.std.proofs.Common.{◌≡◌, ◌∙◌, sym, ap, refl, option_map, w32}
+use Rattle.std.proofs.Common.{◌≡◌, ◌∙◌, sym, ap, subst, refl, option_map, w32}
 use Rattle.std.specs.Prelude.{slice_set}
 use Rattle.std.proofs.lemmas.Int.{to_z-of_z}
 use Rattle.pid_types.proofs.General.{held}
@@ -8,10 +8,15 @@ use Rattle.pid_types.specs.Outcome.{Outcome, changed}
 use Rattle.pid_types.specs.Groups.{set_group, set_pgid}
 use Rattle.task_tree.specs.Tree.{task_at}
 use Rattle.groups_sessions.specs.Membership.{Membership, membership_at}
+use Rattle.task_table.specs.Store.{HasNoThreads}
 use Rattle.task_table.specs.View.{name_at, state_of}
+use Rattle.task_table.proofs.InUse.{used-here}
 use Rattle.task_table.proofs.Regrouped.{IsRegrouped, parents-regrouped}
 use Rattle.set_calls.proofs.Regrouped.{joined}
 use Rattle.set_calls.proofs.groups.set_pgid.Goals as goal
+
+pub set_group-requires-clause-group : goal.set_group-requires-clause-group
+set_group-requires-clause-group c = used-here c.args.store.now c.laws.ensures c.requires.alone c.in-Ok.goes.group c.in-Ok.ensures.may.group
 
 pub returns-in-Ok : goal.returns-in-Ok
 returns-in-Ok c =
@@ -31,7 +36,7 @@ returns-in-Ok c =
     let came : set_pgid (state_of old) c.args.caller c.args.pid c.args.pgid ≡ changed (with_row (state_of old) (name_at old.numbering goes.task) (set_group (name_at old.numbering goes.group))) Done =
     ap (λ z. set_pgid (state_of old) c.args.caller z c.args.pgid) (sym (to_z-of_z w32 c.args.pid c.ranges.pid)) ∙ ap (set_pgid (state_of old) c.args.caller _) (sym (to_z-of_z w32 c.args.pgid c.ranges.pgid)) ∙ h.outcome in
     record {
-      state = sym (ap (λ (o : Outcome). o.state) came ∙ joined old new c.laws.ensures c.laws-in-Ok.ensures c.requires.parents goes.task t.0 t.1 member r m.0 m.1 refl);
+      state = sym (ap (λ (o : Outcome). o.state) came ∙ joined old new c.laws.ensures c.laws-in-Ok.ensures c.requires.parents goes.task t.0 t.1 member r (subst HasNoThreads (sym c.set_group.ensures.threads) c.requires.alone) m.0 m.1 refl);
       reply = sym (ap (λ (o : Outcome). o.reply) came);
       parents = parents-regrouped old new c.laws.ensures c.laws-in-Ok.ensures c.requires.parents goes.task t.0 t.1 member r;
       threads = c.set_group.ensures.threads;

@@ -1,9 +1,10 @@
 -- That nobody is in a group of the caller's key is that no row names one after it; then one membership changed is one row changed
-use Rattle.std.proofs.Common.{◌∙◌, sym, ap, refl}
+use Rattle.std.proofs.Common.{◌∙◌, sym, ap, subst, refl}
 use Rattle.pid_types.specs.declared.reply.Reply.TheVariants.{Number}
 use Rattle.pid_types.specs.Outcome.{Outcome, refused}
 use Rattle.pid_types.specs.Groups.{start_session}
 use Rattle.groups_sessions.specs.Membership.{Membership}
+use Rattle.task_table.specs.Store.{HasNoThreads}
 use Rattle.task_table.specs.View.{state_of}
 use Rattle.task_table.proofs.Regrouped.{IsRegrouped, regrouped, parents-regrouped}
 use Rattle.set_calls.proofs.Led.{refuses, leads}
@@ -37,7 +38,7 @@ returns-in-Ok c =
     } in
     let is = leads old c.laws.ensures found.key found.task c.in-Some.ensures.there.0 c.args.caller c.in-Some.ensures.row (rw c.members.ensures at c.in-Ok.ensures) in
     record {
-      state = sym (ap (λ (o : Outcome). o.state) is ∙ regrouped old new c.laws.ensures c.laws-in-Ok.ensures c.requires.parents found.key found.task c.in-Some.ensures.there.0 member r start_session refl);
+      state = sym (ap (λ (o : Outcome). o.state) is ∙ regrouped old new c.laws.ensures c.laws-in-Ok.ensures c.requires.parents found.key found.task c.in-Some.ensures.there.0 member r (subst HasNoThreads (sym c.start_session.ensures.threads) c.requires.alone) start_session refl);
       reply = ap Number c.own_number-number.ensures ∙ sym (ap (λ (o : Outcome). o.reply) is);
       parents = parents-regrouped old new c.laws.ensures c.laws-in-Ok.ensures c.requires.parents found.key found.task c.in-Some.ensures.there.0 member r;
       threads = c.start_session.ensures.threads;

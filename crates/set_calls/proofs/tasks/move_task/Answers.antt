@@ -1,4 +1,4 @@
-use Rattle.std.proofs.Common.{◌∙◌, sym, ap, is_some}
+use Rattle.std.proofs.Common.{◌∙◌, sym, ap, subst, is_some}
 use Rattle.pid_types.proofs.General.{held}
 use Rattle.pid_types.specs.declared.reply.Refusal.TheVariants.{NoTask, NoControl}
 use Rattle.pid_types.specs.declared.reply.Reply.TheVariants.{Done}
@@ -7,7 +7,7 @@ use Rattle.pid_types.specs.Controls.{control_at}
 use Rattle.pid_types.specs.Outcome.{changed, for_found}
 use Rattle.pid_types.specs.Changes.{move_task, set_home, with_home}
 use Rattle.pids_charge.specs.Charges.{home_id}
-use Rattle.task_table.specs.Store.{Store}
+use Rattle.task_table.specs.Store.{Store, HasNoThreads}
 use Rattle.task_table.specs.View.{name_at, row_of, state_of}
 use Rattle.task_table.proofs.Changed.{retasked, rehomed}
 use Rattle.set_calls.proofs.tasks.move_task.Goals as goal
@@ -24,6 +24,7 @@ returns-clause-state c =
     ∙ ap (λ o. (for_found (state_of old) o NoControl (λ g. changed (with_home (state_of old) (name_at old.numbering found.key) c.args.id) Done)).state) control.1
     ∙ retasked old new c.laws.ensures c.laws-2.ensures found.key found.task task c.in-Some.ensures.there.0
     (rehomed old new found.key task found.task.home c.in-Some-find.home c.move_home.ensures.tasks c.move_home.ensures.controls c.move_home.ensures.homes c.move_home.ensures.rest)
+    (subst HasNoThreads (sym (ap (λ (s : Store). s.threads) c.move_home.ensures.rest)) c.requires.alone)
     (set_home (state_of old) c.args.id) (λ i. record (row_of old found.key found.task) { home = sym (ap (λ v. home_id v c.in-Some-find.home) (sym c.controls.ensures) ∙ c.in-Some-find.ensures.id) i }))
 
 pub returns-clause-threads : goal.returns-clause-threads

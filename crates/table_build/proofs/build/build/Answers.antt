@@ -1,6 +1,7 @@
-use Rattle.std.proofs.Common.{[], map, ap, ◌∙◌, arith}
+use Rattle.std.proofs.Common.{[], map, ap, sym, subst, ◌∙◌, arith}
 use Rattle.table_build.specs.Bare.{steady}
 use Rattle.table_build.proofs.SpaceFalls.{steady-bare, steady-same}
+use Rattle.task_table.specs.Store.{Store, HasNoThreads}
 use Rattle.task_table.proofs.Results.{if_err}
 use Rattle.table_build.proofs.build.build.Goals as goal
 
@@ -33,6 +34,10 @@ returns-in_err-put_tasks-clause-refused c =
 
 pub returns-in_err-store-clause-refused : goal.returns-in_err-store-clause-refused
 returns-in_err-store-clause-refused c = if_err c.from_residual.result _ c.in_err-store.field-0.0 c.from_residual.ensures.1 c.in_err-store.ensures.refused
+
+pub returns-clause-alone : goal.returns-clause-alone
+returns-clause-alone c =
+    subst HasNoThreads (sym (c.put_cursors.ensures.moved.threads ∙ ap (λ (s : Store). s.threads) c.in_ok-put_falls.ensures.rest.rest)) c.in_ok-put_tasks.ensures.alone
 
 pub returns-clause-kin : goal.returns-clause-kin
 returns-clause-kin c = grind arith

@@ -1,9 +1,11 @@
-use Rattle.std.proofs.Common.{◌∙◌, slice_get, refl, sym, arith}
+use Rattle.std.proofs.Common.{◌∙◌, slice_get, refl, sym, subst, arith}
 use Rattle.task_table.proofs.Results.{if_err}
 use Rattle.table_build.proofs.Gathered.{rows-are, rows-rise}
 use Rattle.table_build.proofs.LineSteps.{lines-same}
 use Rattle.table_build.proofs.Steps.{places-both}
 use Rattle.table_build.proofs.Places.{none_some}
+use Rattle.task_table.specs.Store.{HasNoThreads}
+use Rattle.task_table.proofs.Threaded.{alone-borne}
 use Rattle.table_build.proofs.build.put_tasks.Goals as goal
 
 pub returns-clause-rows : goal.returns-clause-rows
@@ -13,7 +15,7 @@ returns-clause-rows c =
     let rows = c.args.saved.now.rows in
     let few = c.in_ok-enter_sessions.ensures.keys in
     let lines = lines-same c.settle_tasks.new.store s placed placed (slice_get rows) c.in_ok-settle_tasks.ensures.lines c.remove_placeholders.ensures.keeps.lines refl in
-    rows-are s c.laws.ensures placed rows lines few c.remove_placeholders.ensures.gone (rows-rise s c.laws.ensures placed rows lines few c.in_ok-placed.ensures.sorted)
+    rows-are s c.laws-2.ensures placed rows lines few c.remove_placeholders.ensures.gone (rows-rise s c.laws-2.ensures placed rows lines few c.in_ok-placed.ensures.sorted)
 
 pub settle_tasks-requires-clause-keys : goal.settle_tasks-requires-clause-keys
 settle_tasks-requires-clause-keys c = grind arith
@@ -48,6 +50,11 @@ settle_tasks-requires-clause-real c = λ k q e. absurd (none_some (sym (c.in_ok-
 
 pub remove_placeholders-requires-clause-few : goal.remove_placeholders-requires-clause-few
 remove_placeholders-requires-clause-few c = grind arith
+
+pub returns-clause-alone : goal.returns-clause-alone
+returns-clause-alone c =
+    subst HasNoThreads (sym c.remove_placeholders.ensures.threads)
+    (alone-borne c.settle_tasks.new.store c.laws.ensures.agree c.thread_laws.ensures c.in_ok-settle_tasks.ensures.keeps.grouping.borne)
 
 pub returns-clause-places : goal.returns-clause-places
 returns-clause-places c =

@@ -4,6 +4,7 @@ use Rattle.pid_types.specs.declared.plain.Name.{Name}
 use Rattle.pid_types.specs.declared.plain.Row.{Row}
 use Rattle.task_table.specs.View.{name_at}
 use Rattle.task_table.proofs.Changes.{in_range}
+use Rattle.task_table.proofs.InUse.{task-used}
 use Rattle.table_build.specs.Stages.{SetsRow}
 use Rattle.table_build.proofs.Steps.{task-of}
 use Rattle.task_table.proofs.Regrouped.{IsRegrouped}
@@ -20,7 +21,7 @@ pub move_to-requires-clause-session_room : goal.move_to-requires-clause-session_
 move_to-requires-clause-session_room c = grind (arith, common_steps)
 
 pub move_to-requires-clause-group : goal.move_to-requires-clause-group
-move_to-requires-clause-group c = grind arith
+move_to-requires-clause-group c = let used = task-used c.args.store.now c.laws.ensures c.args.key in grind (arith, used)
 
 pub returns-clause-keeps : goal.returns-clause-keeps
 returns-clause-keeps c =
@@ -45,7 +46,7 @@ pub move_to-requires-clause-room : goal.move_to-requires-clause-room
 move_to-requires-clause-room c = grind (arith, common_steps)
 
 pub move_to-requires-clause-session : goal.move_to-requires-clause-session
-move_to-requires-clause-session c = grind arith
+move_to-requires-clause-session c = let used = task-used c.args.store.now c.laws.ensures c.args.session in grind (arith, used)
 
 pub move_to-requires-clause-there : goal.move_to-requires-clause-there
 move_to-requires-clause-there c = grind arith

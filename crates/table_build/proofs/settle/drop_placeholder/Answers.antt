@@ -42,6 +42,7 @@ returns c =
         places = record { spaces = spaces-stay s.numbering t.numbering c.laws.ensures.numbering c.requires.standing r.numbers; controls = r.home.controls };
       };
       gone = λ h. gone;
+      threads = r.threads;
       stays = λ k none. elim (cases_eq k c.args.key) [
         | inl same ↦ ap (row_with t) same ∙ gone
         | inr not ↦ others k not ∙ none

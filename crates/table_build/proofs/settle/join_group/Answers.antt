@@ -8,7 +8,7 @@ use Rattle.task_tree.specs.Tree.{task_at, parent_of}
 use Rattle.task_table.specs.View.{name_at, row_with}
 use Rattle.task_table.proofs.Regrouped.{IsRegrouped}
 use Rattle.task_table.proofs.Seated.{session-name}
-use Rattle.task_table.proofs.InUse.{member}
+use Rattle.task_table.proofs.InUse.{member, task-used}
 use Rattle.table_build.specs.Grouping.{IsGrouping}
 use Rattle.table_build.specs.Stages.{SetsRow}
 use Rattle.table_build.proofs.Steps.{task-of}
@@ -76,4 +76,4 @@ pub set_group-requires-clause-there : goal.set_group-requires-clause-there
 set_group-requires-clause-there c = grind arith
 
 pub set_group-requires-clause-group : goal.set_group-requires-clause-group
-set_group-requires-clause-group c = grind arith
+set_group-requires-clause-group c = let used = task-used c.args.store.now c.laws.ensures c.args.group in grind (arith, used)

@@ -14,4 +14,5 @@ invariant-loop-place l = record {
   lines : SameLines l.initial.store l.store l.placed l.placed;
   gone : (k : ℕ) → k < l.place → is_held l.placed k ≡ true → row_with l.store k ≡ None;
   places : KeepsPlaces l.initial.store l.store;
+  threads : l.store.threads ≡ l.initial.store.threads;
 }

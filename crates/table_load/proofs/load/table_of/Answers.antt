@@ -23,7 +23,7 @@ returns-in_err-check_store-clause-form c =
 pub returns-in_err-check_store-clause-refused : goal.returns-in_err-check_store-clause-refused
 returns-in_err-check_store-clause-refused c =
     if_err c.from_residual-in_err-check_store.result _ c.in_err-check_store.field-0.0 c.from_residual-in_err-check_store.ensures.1 (λ not tables below.
-    c.in_err-check_store.ensures.refused not (record { sound = subst IsSound (sym c.in_ok-store.ensures.state) tables.sound; parents = c.in_ok-store.ensures.kin }))
+    c.in_err-check_store.ensures.refused not (record { sound = subst IsSound (sym c.in_ok-store.ensures.state) tables.sound; parents = c.in_ok-store.ensures.kin; alone = c.in_ok-store.ensures.alone }))
 
 pub returns-clause-state : goal.returns-clause-state
 returns-clause-state c = c.of-table.ensures ∙ c.in_ok-store.ensures.state

@@ -4,7 +4,7 @@ use Rattle.std.specs.Option.{option_map_or}
 use Rattle.pid_numbers.specs.Numbering.{Numbering, namespace_at, path_at}
 use Rattle.task_table.specs.Store.{Store}
 use Rattle.task_table.proofs.Rest as rest
-use Rattle.task_table.proofs.NoThreads as threads
+use Rattle.task_table.proofs.Threaded as threads
 use Rattle.task_table.proofs.Tasks.add_space.Goals as goal
 
 -- a namespace with a path keeps it

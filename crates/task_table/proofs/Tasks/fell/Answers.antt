@@ -3,7 +3,7 @@ use Rattle.std.specs.Option.{option_map_or}
 use Rattle.pid_numbers.specs.Numbering.{Namespace, namespace_at, fallen_within}
 use Rattle.task_table.specs.Store.{Store}
 use Rattle.task_table.proofs.Rest as rest
-use Rattle.task_table.proofs.NoThreads as threads
+use Rattle.task_table.proofs.Threaded as threads
 use Rattle.task_table.proofs.Tasks.fell.Goals as goal
 
 path_kept : (space : ℕ) (o : Option Namespace) → option_map_or (λ t. t.path) (option_map (fallen_within space) o) [] ≡ option_map_or (λ t. t.path) o []

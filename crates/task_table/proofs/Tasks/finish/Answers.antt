@@ -33,7 +33,7 @@ invariant_of-self c = record {
       let there = rw (← c.self.view_is) at c.requires.there in
       let old : Store = record { numbering = c.self.inside.numbers; tree = c.self.inside.tree; members = c.self.inside.members; charges = c.self.inside.controls; threads = c.self.inside.threads } in
       let task : Task = record c.args.task { life = Zombie c.args.end } in
-      changes.retasked old _ c.self.invariant.agree c.args.key c.args.task task there refl refl c.finish.ensures.tasks
+      changes.retasked old _ c.self.invariant.agree c.args.key c.args.task task there refl refl refl c.finish.ensures.tasks
       (homes.live-died c.self.inside.controls c.died.new.self c.args.task task c.died.ensures.home c.requires.live refl refl (changes.live_some old c.self.invariant.agree c.args.key c.args.task there c.requires.live))
       (homes.zombies-died c.self.inside.controls c.died.new.self c.args.task task c.died.ensures.home c.requires.live refl refl (changes.live_some old c.self.invariant.agree c.args.key c.args.task there c.requires.live))
       c.died.ensures.tasks

@@ -1,13 +1,13 @@
 -- The parts are written one after another and agree again only at the end: the drawn key is the one made room for, in no part before
-use Rattle.std.proofs.Common.{◌≡◌, ◌+◌, ℕ, List, [], None, Some, Option, true, is_some, option_map, if◌then◌else◌, refl, sym, ap, subst, arith, ◌∙◌}
+use Rattle.std.proofs.Common.{◌≡◌, ◌+◌, ℕ, List, [], None, Some, Option, true, false, is_some, option_map, if◌then◌else◌, refl, sym, ap, subst, arith, ◌∙◌}
 use Rattle.std.proofs.lemmas.List.Sums.{count_by-le-length}
 use Rattle.std.specs.Option.{option_map_or}
 use Rattle.std.specs.Prelude.{slice_set, slice_index_or}
 use Rattle.pids_charge.specs.Charges.{Home, stands}
 use Rattle.pid_types.specs.declared.call.Kind.TheVariants.{Group, Session}
-use Rattle.pid_numbers.specs.Numbering.{Namespace, identifier_at, namespace_at, path_at, moved as cursor_moved}
+use Rattle.pid_numbers.specs.Numbering.{Namespace, identifier_at, namespace_at, path_at, is_used, moved as cursor_moved}
 use Rattle.task_tree.specs.Tree.{task_at}
-use Rattle.task_table.specs.Store.{Store}
+use Rattle.task_table.specs.Store.{Store, is_used_at}
 use Rattle.task_table.specs.Residents.{live_home}
 use Rattle.task_table.proofs.LookUps.{none_some}
 use Rattle.task_table.proofs.Less as less
@@ -15,7 +15,7 @@ use Rattle.task_table.proofs.Groups as groups
 use Rattle.task_table.proofs.Changes as changes
 use Rattle.task_table.proofs.Births as births
 use Rattle.task_table.proofs.Housed as housed
-use Rattle.task_table.proofs.NoThreads as threads
+use Rattle.task_table.proofs.Threaded as threads
 use Rattle.task_table.proofs.Tasks.fork.Goals as goal
 
 pub settle-requires-clause-from : goal.settle-requires-clause-from
@@ -27,15 +27,20 @@ settle-requires-clause-from c p e =
 pub settle-requires-clause-all : goal.settle-requires-clause-all
 settle-requires-clause-all c =
     let all = c.self.invariant.agree.all in
-    omega (arith, all, count_by-le-length is_some c.self.inside.tree.tasks, c.laws-3.ensures.few)
+    omega (arith, all, count_by-le-length is_some c.self.inside.tree.tasks, c.laws-3.ensures.few, count_by-le-length is_some c.self.inside.threads.threads, c.laws-5.ensures.few)
 
 pub settle-requires-clause-named : goal.settle-requires-clause-named
 settle-requires-clause-named c k m is =
     let old : Store = record { numbering = c.self.inside.numbers; tree = c.self.inside.tree; members = c.self.inside.members; charges = c.self.inside.controls; threads = c.self.inside.threads } in
-    let group = less.used c.self.inside.numbers Group m.group (groups.group_used old c.self.invariant.agree k m is) in
-    let session = less.used c.self.inside.numbers Session m.session (groups.session_used old c.self.invariant.agree k m is) in
-    let there = births.drawn-there c.self.inside.numbers c.draw.new.self c.in_ok-draw.field-0 c.args.space c.args.numbers.now c.in_ok-draw.ensures.fresh c.in_ok-draw.ensures.named c.in_ok-draw.ensures.others in
-    (there m.group (ap is_some group.1), there m.session (ap is_some session.1))
+    let group = threads.used-as c.self.inside.numbers Group m.group (groups.group_used old c.self.invariant.agree k m is) in
+    let session = threads.used-as c.self.inside.numbers Session m.session (groups.session_used old c.self.invariant.agree k m is) in
+    let still = threads.used-beside c.self.inside.numbers c.draw.new.self c.in_ok-draw.field-0 c.in_ok-draw.ensures.fresh c.in_ok-draw.ensures.others in
+    (still m.group group, still m.session session)
+
+pub settle-requires-clause-own : goal.settle-requires-clause-own
+settle-requires-clause-own c =
+    let key : c.in_ok-draw.field-0 ≡ c.in_ok-key.key = c.in_ok-draw.ensures.key ∙ ap (λ (s : Store). s.numbering.next) c.self.view_is ∙ sym c.in_ok-key.ensures.key in
+    subst (λ (k : ℕ). is_used_at c.draw.new.self k ≡ true) key (ap (λ o. option_map_or is_used o false) c.in_ok-draw.ensures.named)
 
 pub settle-requires-clause-free : goal.settle-requires-clause-free
 settle-requires-clause-free c k e =
@@ -75,7 +80,7 @@ invariant_of-self-2 c = record {
       (λ p e. w.members p ∙ ap is_some (same.tasks p) ∙ c.requires.from p e)
       (subst (λ (j : ℕ). births.OneMore c.self.inside.numbers c.draw.new.self j) key
       (births.drawn-uses c.self.inside.numbers c.draw.new.self c.in_ok-draw.field-0 c.args.space c.args.numbers.now c.in_ok-draw.ensures.fresh c.in_ok-draw.ensures.named c.in_ok-draw.ensures.others))
-      c.settle.ensures.uses c.settle.ensures.tasks c.settle.ensures.members c.settle.ensures.charged
+      c.settle.ensures.uses c.settle.ensures.tasks c.settle.ensures.members refl c.settle.ensures.charged
       (ap (λ v. stands v c.args.task.home) same.charges ∙ c.requires.home) c.settle.ensures.count
       (births.ranks-born c.self.inside.numbers c.settle.new.numbers c.self.inside.tree c.settle.new.tree c.in_ok-key.key fresh
       (λ j differs. c.settle.ensures.bare j ∙ bare_drawn j (λ e. differs (e ∙ key)))
@@ -86,7 +91,7 @@ invariant_of-self-2 c = record {
   threaded =
       threads.still c.self.inside.numbers c.settle.new.numbers c.self.inside.threads c.self.invariant.threaded
       (threads.both c.self.inside.numbers c.draw.new.self c.settle.new.numbers
-      (threads.drawn c.self.inside.numbers c.draw.new.self c.in_ok-draw.field-0 _ c.in_ok-draw.ensures.named refl c.in_ok-draw.ensures.others) c.settle.ensures.no_thread);
+      (threads.drawn c.self.inside.numbers c.draw.new.self c.in_ok-draw.field-0 _ c.in_ok-draw.ensures.fresh c.in_ok-draw.ensures.named refl c.in_ok-draw.ensures.others) c.settle.ensures.threads);
   housed =
       let same = rw (← c.self.view_is) at c.make_room.ensures.same in
       housed.changed c.self.inside.controls c.settle.new.controls c.self.inside.tree.tasks c.settle.new.tree.tasks c.self.inside.residents c.settle.new.residents c.self.invariant.housed c.in_ok-key.key (Some c.args.task) c.settle.ensures.tasks

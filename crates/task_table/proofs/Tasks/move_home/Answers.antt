@@ -21,7 +21,7 @@ invariant_of-self c = record {
       let stands = rw (← c.self.view_is) at c.requires.stands in
       let old : Store = record { numbering = c.self.inside.numbers; tree = c.self.inside.tree; members = c.self.inside.members; charges = c.self.inside.controls; threads = c.self.inside.threads } in
       let task : Task = record c.args.task { home = c.args.to } in
-      changes.retasked old _ c.self.invariant.agree c.args.key c.args.task task there refl refl c.update.ensures.tasks
+      changes.retasked old _ c.self.invariant.agree c.args.key c.args.task task there refl refl refl c.update.ensures.tasks
       (homes.live-moved c.self.inside.controls c.transfer.new.self c.args.task c.args.to c.transfer.ensures.homes c.requires.live (changes.live_some old c.self.invariant.agree c.args.key c.args.task there c.requires.live) stands)
       (homes.zombies-moved c.self.inside.controls c.transfer.new.self c.args.task c.args.to c.transfer.ensures.homes c.requires.live)
       c.transfer.ensures.tasks

@@ -7,7 +7,7 @@ use Rattle.groups_sessions.specs.Membership.{Membership, membership_at}
 use Rattle.task_table.specs.Store.{Store, IsLess, uses_at, one_if, is_kind}
 use Rattle.task_table.proofs.Less as less
 use Rattle.task_table.proofs.Groups as groups
-use Rattle.task_table.proofs.NoThreads as threads
+use Rattle.task_table.proofs.Threaded as threads
 use Rattle.task_table.proofs.Tasks.move_to.Goals as goal
 
 pub take_uses-requires-clause-group : goal.take_uses-requires-clause-group
@@ -51,7 +51,7 @@ invariant_of-self c = record {
       (groups.task_left old c.self.invariant.agree c.take_uses.new.numbers m.0 n changed) c.self.invariant.agree.ranks);
   threaded =
       threads.still c.self.inside.numbers c.take_uses.new.numbers c.self.inside.threads c.self.invariant.threaded
-      (threads.both c.self.inside.numbers c.add_uses.new.numbers c.take_uses.new.numbers c.add_uses.ensures.no_thread c.take_uses.ensures.no_thread);
+      (threads.both c.self.inside.numbers c.add_uses.new.numbers c.take_uses.new.numbers c.add_uses.ensures.threads c.take_uses.ensures.threads);
   housed =
       c.self.invariant.housed;
 }

@@ -1,4 +1,4 @@
-use Rattle.std.proofs.Common.{◌∙◌, is_some, None, ◌==◌, ◌&&◌, ap, subst, arith}
+use Rattle.std.proofs.Common.{◌∙◌, is_some, None, ◌==◌, ◌&&◌, refl, ap, subst, arith}
 use Rattle.pid_types.proofs.General.{held}
 use Rattle.pid_types.specs.declared.call.Kind.TheVariants.{Group, Session}
 use Rattle.groups_sessions.specs.Membership.{membership_at}
@@ -8,7 +8,7 @@ use Rattle.task_table.proofs.Groups as groups
 use Rattle.task_table.proofs.Changes as changes
 use Rattle.task_table.proofs.HomeCounts as homes
 use Rattle.task_table.proofs.Housed as housed
-use Rattle.task_table.proofs.NoThreads as threads
+use Rattle.task_table.proofs.Threaded as threads
 use Rattle.task_table.proofs.Tasks.remove.Goals as goal
 
 pub invariant_of-self : goal.invariant_of-self
@@ -30,13 +30,13 @@ invariant_of-self c = record {
       let counts = homes.one-left c.self.inside.controls c.leave_home.new.controls c.args.task c.leave_home.ensures.home
       (changes.live_some old w c.args.key c.args.task there) (changes.zombie_some old w c.args.key c.args.task there) in
       let l = less.IsLess-trans c.self.inside.numbers c.laws.ensures.full c.laws.ensures.own c.take_uses.new.numbers c.take_use.new.numbers c.take_uses.ensures.less c.take_use.ensures.less in
-      groups.left old new w c.args.key c.args.task m.0 there m.1 c.remove.ensures.tasks c.leave.ensures uses (λ h. (counts h).0) (λ h. (counts h).1) c.leave_home.ensures.tasks
+      groups.left old new w c.args.key c.args.task m.0 there m.1 c.remove.ensures.tasks c.leave.ensures refl uses (λ h. (counts h).0) (λ h. (counts h).1) c.leave_home.ensures.tasks
       (less.ranks-less c.self.inside.numbers c.laws.ensures.full c.laws.ensures.own c.take_use.new.numbers l c.remove.new.self c.laws-2.ensures.waiting
       (groups.others_left old w c.args.key m.0 c.take_use.new.numbers c.remove.new.self c.remove.ensures.tasks uses)
       (less.ranks-kept c.self.inside.numbers c.self.inside.tree c.remove.new.self c.args.key c.remove.ensures.rank c.remove.ensures.ranks w.ranks));
   threaded =
       threads.still c.self.inside.numbers c.take_use.new.numbers c.self.inside.threads c.self.invariant.threaded
-      (threads.both c.self.inside.numbers c.take_uses.new.numbers c.take_use.new.numbers c.take_uses.ensures.no_thread c.take_use.ensures.no_thread);
+      (threads.both c.self.inside.numbers c.take_uses.new.numbers c.take_use.new.numbers c.take_uses.ensures.threads c.take_use.ensures.threads);
   housed =
       let there = rw (← c.self.view_is) at c.requires in
       housed.changed c.self.inside.controls c.leave_home.new.controls c.self.inside.tree.tasks c.remove.new.self.tasks c.self.inside.residents c.leave_home.new.residents c.self.invariant.housed c.args.key None c.remove.ensures.tasks

@@ -4,7 +4,7 @@ use Rattle.pid_numbers.specs.Numbering.{Namespace, namespace_at}
 use Rattle.pid_numbers.specs.Restore.{is_flagged, fallen_if}
 use Rattle.task_table.specs.Store.{Store}
 use Rattle.task_table.proofs.Rest as rest
-use Rattle.task_table.proofs.NoThreads as threads
+use Rattle.task_table.proofs.Threaded as threads
 use Rattle.task_table.proofs.Tasks.set_fallen.Goals as goal
 
 path_kept : (flag : Bool) (o : Option Namespace) → option_map_or (λ t. t.path) (option_map (fallen_if flag) o) [] ≡ option_map_or (λ t. t.path) o []

@@ -1,5 +1,4 @@
-use Rattle.task_table.proofs.NoThreads as threads
 use Rattle.task_table.proofs.Tasks.thread_laws.Goals as goal
 
 pub returns : goal.returns
-returns c = rw (← c.self.view_is) (threads.used c.self.inside.numbers c.self.inside.threads c.self.invariant.threaded)
+returns c = rw (← c.self.view_is) c.self.invariant.threaded

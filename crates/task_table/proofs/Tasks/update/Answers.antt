@@ -16,7 +16,7 @@ invariant_of-self c = record {
       let same_home = changes.field_is (λ (t : Task). t.home) t.0 c.args.task.home (slice_index_or c.self.inside.tree.tasks c.args.key None) t.1 home in
       let same_life = changes.field_is (λ (t : Task). t.life) t.0 c.args.task.life (slice_index_or c.self.inside.tree.tasks c.args.key None) t.1 life in
       changes.retasked (record { numbering = c.self.inside.numbers; tree = c.self.inside.tree; members = c.self.inside.members; charges = c.self.inside.controls; threads = c.self.inside.threads }) _ c.self.invariant.agree
-      c.args.key t.0 c.args.task t.1 refl refl c.update.ensures.tasks
+      c.args.key t.0 c.args.task t.1 refl refl refl c.update.ensures.tasks
       (λ h. ap (λ n. live_at c.self.inside.controls h + n) (changes.lives_same h t.0 c.args.task same_home same_life))
       (λ h. ap (λ n. zombies_at c.self.inside.controls h + n) (changes.waits_same h t.0 c.args.task same_home same_life))
       refl (λ k p r e. c.self.invariant.agree.ranks k p r (sym (ap (λ l. slice_index_or l k None) c.update.ensures.ranks) ∙ e));

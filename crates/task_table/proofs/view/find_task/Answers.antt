@@ -1,4 +1,4 @@
-use Rattle.std.proofs.Common.{◌≡◌, ◌∙◌, refl, sym, ap, Some, None}
+use Rattle.std.proofs.Common.{◌≡◌, ◌∙◌, refl, sym, ap, Some}
 use Rattle.pid_numbers.specs.Numbering.{number_of}
 use Rattle.task_tree.specs.Tree.{task_at}
 use Rattle.task_table.specs.View.{state_of}

@@ -1,4 +1,4 @@
-use Rattle.std.proofs.Common.{◌∙◌, List, ℕ, drop, replicate, refl, sym, ap}
+use Rattle.std.proofs.Common.{◌∙◌, List, ℕ, drop, replicate, refl, rules, sym, ap}
 use Rattle.std.specs.Option.{option_map_or}
 use Rattle.pid_types.specs.declared.plain.Row.{Row}
 use Rattle.pid_types.specs.declared.reply.Reply.{Reply}
@@ -6,6 +6,7 @@ use Rattle.pid_types.specs.declared.reply.Reply.TheVariants.{Levels, Refused}
 use Rattle.pid_types.specs.declared.reply.Refusal.TheVariants.{NoCaller, NoTask}
 use Rattle.pid_types.specs.Names.{numbers_from, task_numbered}
 use Rattle.pid_types.specs.Queries.{ns_pid}
+use Rattle.pid_types.specs.Threads.{process_numbered}
 use Rattle.pid_numbers.specs.Numbering.{levels_of}
 use Rattle.task_table.specs.View.{name_at, state_of}
 use Rattle.task_table.proofs.Keys.{levels-are}
@@ -13,6 +14,10 @@ use Rattle.task_table.proofs.LookUps.{named}
 use Rattle.task_table.proofs.Alone.{process-task}
 use Rattle.translate.proofs.Written.{first_of, behind}
 use Rattle.translate.proofs.queries.ns_pid.Goals as goal
+
+pub returns-in_default-find_task-clause-value : goal.returns-in_default-find_task-clause-value
+unfolding ns_pid task_numbered process_numbered
+returns-in_default-find_task-clause-value c = search rules
 
 pub returns-clause-value : goal.returns-clause-value
 unfolding ns_pid

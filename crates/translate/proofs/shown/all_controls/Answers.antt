@@ -22,7 +22,7 @@ loop-id-init c =
 pub control_row-requires : goal.control_row-requires
 control_row-requires c =
     let all = subst (AllByRecursion (λ (p : ℕ × ℕ). (stands c.args.store.now.charges p.1 ≡ true) × (home_id c.args.store.now.charges p.1 ≡ p.0))) c.in-Some.ensures.steps c.loop-id.invariant.keys in
-    record { stands = all.0.0; id = all.0.1 }
+    record { whole = c.requires; stands = all.0.0; id = all.0.1 }
 
 pub loop-id-preserved : goal.loop-id-preserved
 loop-id-preserved c =

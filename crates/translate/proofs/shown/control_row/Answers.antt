@@ -8,5 +8,5 @@ pub returns : goal.returns
 returns c =
     let v = c.args.store.now.charges in
     let limit = c.limit.ensures ∙ ap (λ (w : Charges). control_limit w (home_id w c.args.key)) c.controls.ensures ∙ ap (control_limit v) c.requires.id in
-    let counted = c.count.ensures ∙ ap (λ (w : Charges). charged_count w (home_id w c.args.key)) c.controls-2.ensures ∙ ap (charged_count v) c.requires.id ∙ count-is c.args.store.now c.laws.ensures c.args.id in
+    let counted = c.count.ensures ∙ ap (λ (w : Charges). charged_count w (home_id w c.args.key)) c.controls-2.ensures ∙ ap (charged_count v) c.requires.id ∙ count-is c.args.store.now c.laws.ensures c.requires.whole.alone c.args.id in
     λ i. record { id = c.args.id; parent = (c.outer_control.ensures ∙ ap (parent_control v.controls) c.requires.id) i; limit = limit i; count = counted i }
