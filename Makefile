@@ -455,7 +455,7 @@ service: ## builds pidtabd, one table for all processes of a host, over what `ma
 # Its parts by cargo, and the daemon by Python. LONG=10 has ten times the sizes. What is not there is skipped.
 service-test: service built ## tests pidtabd: kills, losses of power, damage, planted faults, clients of Redis (10 to 30 minutes)
 	@$(CC) -std=c11 -O2 -Wall -Wextra -Werror -Ibindings/c -o out/service/check service/tests/check.c out/libpidtab.a
-	@for it in power flaky; do $(CC) -std=gnu11 -O2 -Wall -Wextra -Werror -shared -fPIC -o out/service/$$it.so service/tests/$$it.c -ldl || exit 1; done
+	@for it in power flaky leap; do $(CC) -std=gnu11 -O2 -Wall -Wextra -Werror -shared -fPIC -o out/service/$$it.so service/tests/$$it.c -ldl || exit 1; done
 	@{ (cd service && cargo test --release --offline --quiet && cd log_turns && CARGO_TARGET_DIR=../target cargo test --release --offline --quiet) && \
 		cd service/tests && \
 		PIDTAB='$(abspath $(PIDTAB))' python3 -W ignore -B -m unittest discover -v -s . -t . && ./planted; } > out/service-test.log 2>&1 \

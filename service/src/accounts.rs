@@ -19,7 +19,8 @@ const MUCH_POURED: usize = 8 << 20;
 /// So long a guest's requests are done in a turn. Then the others come, and his in the next turn, or, if others have come meanwhile, in the one after.
 const BUDGET: Duration = Duration::from_micros(200);
 
-/// The calls of a MULTI come together, whatever time they take. Those exits of a guest are not made that come so long after his time was over.
+/// The calls of a MULTI come together, whatever time they take. Of them a guest's exits are not made that come so long
+/// after his time was over.
 const GRACE: Duration = Duration::from_millis(10);
 
 /// So many requests are done between two looks at the clock. One that may take long counts as all of them.

@@ -136,9 +136,6 @@ impl Service {
     /// each task that would fall with it.
     fn refusal_of_call(&mut self, conn: &Conn, call: Call) -> Option<String> {
         if matches!(call, Call::Exit { .. }) {
-            if self.accounts.is_late() {
-                return Some("-BUSY the calls of this MULTI take too long".to_owned());
-            }
             self.accounts.count(REQUESTS_AT_ONCE);
         }
         let why = self.refusal(conn.rights, Some(call));
@@ -327,8 +324,17 @@ impl Service {
         }
         conn.out.array(multi.calls.len());
         for (call, asks) in multi.calls {
-            self.run_call(conn, call, asks);
+            self.run_queued(conn, call, asks);
         }
+    }
+
+    /// One of the calls that come together: the clock is not looked at between them, so an exit is asked whether it comes
+    /// late. A single one is not: behind it the clock is looked at, and what comes next waits for another turn.
+    fn run_queued(&mut self, conn: &mut Conn, call: Call, asks: bool) {
+        if matches!(call, Call::Exit { .. }) && self.accounts.is_late() {
+            return conn.out.line("-BUSY the calls of this MULTI take too long");
+        }
+        self.run_call(conn, call, asks);
     }
 
     fn run_seat(&mut self, conn: &mut Conn, command: &Command, words: Words) {

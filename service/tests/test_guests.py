@@ -5,24 +5,27 @@ import threading
 import time
 import unittest
 
-from harness import Case, Client, LONG, Refused, first_of_all
+from harness import BUILT, Case, Client, LONG, Refused, first_of_all, need
 from test_manners import times
 
 GUEST, OTHER = 65534, 65533
 
+NOT_HIS = "NOPERM this user may call by tasks below his cgroup alone"
+LATE = "BUSY the calls of this MULTI take too long"
+
 
 class Slowest(threading.Thread):
-    """PINGs, one after another, until it is asked how long the slowest took, in ms."""
+    """The same request, one after another, until it is asked how long the slowest took, in ms."""
 
-    def __init__(self, client):
+    def __init__(self, client, words="PING"):
         super().__init__()
-        self.client, self.worst, self.goes = client, 0.0, True
+        self.client, self.words, self.worst, self.goes = client, words, 0.0, True
         self.start()
 
     def run(self):
         while self.goes:
             began = time.monotonic()
-            self.client.say("PING")
+            self.client.say(self.words)
             self.worst = max(self.worst, (time.monotonic() - began) * 1000)
 
     def ms(self):
@@ -47,9 +50,9 @@ class Guests(Case):
         if os.geteuid() != 0 or "4294967295" not in pathlib.Path("/proc/self/uid_map").read_text(encoding="ascii"):
             self.skipTest("not root, or not of all users")
 
-    def serve(self, *options, kept=False):
+    def serve(self, *options, kept=False, variables=None):
         """A daemon where the guest has the cgroup 1 and the task 2, and another may ask; root's client, and the guest's."""
-        one = self.with_rights(f"{GUEST}:below=1", f"{OTHER}:ro", options=options, kept=kept)
+        one = self.with_rights(f"{GUEST}:below=1", f"{OTHER}:ro", options=options, kept=kept, variables=variables)
         client = one.client()
         for line in ("FORK 1", "MOVE 2 1"):
             client.say(line)
@@ -149,14 +152,17 @@ class Guests(Case):
         return one, guest, init
 
     def test_requests_that_take_long(self):
-        """The guest's time in a turn is over after one such exit, and others come between."""
+        """The guest's time in a turn is over after one such exit, and others come between: so calls of theirs are made between two exits."""
         with first_of_all():
             one, guest, init = self.with_a_large_init()
-            slowest, began = Slowest(one.client()), time.monotonic()
-            guest.socket.sendall(f"EXIT {init} 0\r\n".encode() * 200)
-            self.assertEqual({str(guest.answer()) for _ in range(200)}, {"NOPERM this user may call by tasks below his cgroup alone"})
+            slowest, began = Slowest(one.client(), "EXEC 1"), time.monotonic()
+            guest.socket.sendall(f"EXIT {init} 0\r\nPOSITION\r\n".encode() * 200)
+            told = [guest.answer() for _ in range(400)]
             took, worst = (time.monotonic() - began) * 1000, slowest.ms()
-        print(f"200 exits that look at 20,000 tasks took {took:.0f} ms, and the slowest PING beside {worst:.1f} ms")
+        turns = len(set(told[1::2]))
+        print(f"200 exits that look at 20,000 tasks took {took:.0f} ms in {turns} turns, and the slowest call beside {worst:.1f} ms")
+        self.assertEqual({str(it) for it in told[::2]}, {NOT_HIS})
+        self.assertGreater(turns, 100)
         self.assertGreater(took, 300)
         self.assertLess(worst, max(took / 10, 100))
 
@@ -168,17 +174,28 @@ class Guests(Case):
             guest.socket.sendall(b"MULTI\r\n" + f"EXIT {init} 0\r\nEXEC 2\r\n".encode() * 500 + b"EXEC\r\n")
             self.assertEqual([guest.answer() for _ in range(1001)], ["OK"] + ["QUEUED"] * 1000)
             told, worst = [str(it) for it in guest.answer()], slowest.ms()
-        self.assertEqual((set(told[1::2]), told[-2]), ({"OK"}, "BUSY the calls of this MULTI take too long"))
-        self.assertEqual(told[0], "NOPERM this user may call by tasks below his cgroup alone")
+        self.assertEqual((set(told[1::2]), told[-2]), ({"OK"}, LATE))
+        self.assertEqual(told[0], NOT_HIS)
         print(f"the slowest PING beside a MULTI of 500 such exits {worst:.1f} ms")
         self.assertLess(worst, 500)
+
+    def test_a_clock_that_leaps(self):
+        """The daemon loses its processor for long between any two looks at the clock: no exit is late by that outside of a MULTI."""
+        need(BUILT / "leap.so")
+        _, _, guest = self.serve(variables={"LD_PRELOAD": str(BUILT / "leap.so")})
+        guest.socket.sendall(b"EXIT 99999 0\r\nCALL EXIT 99999 0\r\nTOLD EXIT 99999 0\r\n" * 10)
+        self.assertEqual([str(guest.answer()) for _ in range(30)], [NOT_HIS] * 30)
+        guest.socket.sendall(b"MULTI\r\nEXIT 99999 0\r\nCALL EXIT 99999 0\r\nEXEC 2\r\nEXEC\r\nEXIT 99999 0\r\n")
+        self.assertEqual([guest.answer() for _ in range(4)], ["OK"] + ["QUEUED"] * 3)
+        self.assertEqual([str(it) for it in guest.answer()], [LATE, LATE, "OK"])
+        self.assertEqual(str(guest.answer()), NOT_HIS)
 
     def test_who_is_cut_and_says_no_more(self):
         """A guest that has closed its half is answered all that it has sent."""
         _, _, guest = self.serve()
         guest.socket.sendall(b"EXIT 99999 0\r\n" * 5000)
         guest.socket.shutdown(1)
-        self.assertEqual({str(guest.answer()) for _ in range(5000)}, {"NOPERM this user may call by tasks below his cgroup alone"})
+        self.assertEqual({str(guest.answer()) for _ in range(5000)}, {NOT_HIS})
         self.assertRaises(EOFError, guest.answer)
 
     def test_followers_that_never_read(self):
