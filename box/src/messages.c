@@ -21,9 +21,12 @@ static enum kind kind_of_owner(const struct thread *thread)
 	return is_read && (unsigned)owner.type < sizeof kinds / sizeof kinds[0] ? kinds[owner.type] : PROCESS;
 }
 
+/* Whatever the type is, anybody's number will do: of a process that is gone too, while a group has it. */
 enum onward enter_owner(struct thread *thread, struct registers *registers)
 {
-	lend(thread, registers_argument(registers, 2) + offsetof(struct f_owner_ex, pid), kind_of_owner(thread));
+	enum kind kind = kind_of_owner(thread) == GROUP ? GROUP : PROCESS_OR_GROUP;
+
+	lend(thread, registers_argument(registers, 2) + offsetof(struct f_owner_ex, pid), kind);
 	return watch(thread, registers);
 }
 

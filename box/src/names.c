@@ -171,7 +171,7 @@ static const struct name *leader_gone(const struct process *caller, uint32_t num
 	return by_root[is_group ? task.group : task.session];
 }
 
-/* A process that is gone is nobody, though a group may have its number. */
+/* A process that is gone is nobody, though a group or a session may have its number; who may own a descriptor still. */
 static pid_t real_seen(const struct process *caller, enum kind kind, int64_t number)
 {
 	const struct process *process = process_seen(caller, (uint32_t)number);
@@ -183,11 +183,11 @@ static pid_t real_seen(const struct process *caller, enum kind kind, int64_t num
 	return leader ? leader->real : NOBODY;
 }
 
-static pid_t real_task(const struct process *caller, int64_t number)
+static pid_t real_task(const struct process *caller, enum kind kind, int64_t number)
 {
 	const struct thread *thread = thread_named(caller, number);
 
-	return number < FIRST_THREAD ? real_seen(caller, TASK, number) : thread ? thread->tid : NOBODY;
+	return number < FIRST_THREAD ? real_seen(caller, kind, number) : thread ? thread->tid : NOBODY;
 }
 
 static int64_t number_of_task(const struct process *caller, int64_t real)
@@ -207,11 +207,11 @@ int64_t to_real(const struct process *caller, enum kind kind, int64_t number)
 		return -(int64_t)real_seen(caller, GROUP, -number);
 	if (kind == CLOCK && number < 0 && (number & 7) != CLOCK_OF_FILE) {
 		int64_t of = ~(number >> CLOCK_BITS);
-		return of ? (~(int64_t)real_task(caller, of) * (1 << CLOCK_BITS)) | (number & 7) : number;
+		return of ? (~(int64_t)real_task(caller, TASK, of) * (1 << CLOCK_BITS)) | (number & 7) : number;
 	}
 	if (number <= 0 || kind == CLOCK)
 		return number;
-	return kind == TASK || kind == PROCESS_OR_GROUP ? real_task(caller, number) : real_seen(caller, kind, number);
+	return kind == TASK || kind == PROCESS_OR_GROUP ? real_task(caller, kind, number) : real_seen(caller, kind, number);
 }
 
 /* The caller's number for one of the kernel's; 0 where the caller cannot see it. A signal may still name a process that is gone. */

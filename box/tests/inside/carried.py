@@ -188,6 +188,8 @@ def without_leader(begin, apart):
     group, session = os.getpgid(member), os.getsid(member)
     say("without a leader", group == leader, session == leader, stat(member) == [1, group, session], of(os.kill, leader, 0))
     say("its group", of(os.killpg, leader, 0), of(os.getpriority, os.PRIO_PGRP, leader), of(fcntl.fcntl, told, fcntl.F_SETOWN, -leader))
+    say("itself", of(fcntl.fcntl, told, fcntl.F_SETOWN, leader),
+        *(of(fcntl.fcntl, told, 15, struct.pack("ii", kind, leader)) != "ESRCH" for kind in range(3)))
     say("its member", of(os.waitid, os.P_PGID, leader, os.WEXITED | os.WNOHANG), of(os.killpg, group, signal.SIGKILL), os.waitpid(-group, 0)[0] == member)
     say("behind it", of(os.killpg, leader, 0), of(fcntl.fcntl, told, fcntl.F_SETOWN, -leader))
     os.close(told)
