@@ -234,7 +234,7 @@ void table_stop(void);
 int64_t table_do(uint32_t operation, uint32_t caller, uint32_t number, uint32_t choice);
 int64_t table_setpgid(uint32_t caller, int32_t pid, int32_t pgid);
 int64_t table_control(uint32_t operation, uint32_t caller, uint64_t id, uint32_t number, uint32_t choice);
-const struct pidtab_effect *table_exit(uint32_t caller, uint32_t status, uint64_t *count);
+const struct pidtab_effect *table_exit(uint32_t caller, uint32_t status, bool is_init, uint64_t *count);
 struct pidtab_task table_stat(uint32_t caller, uint32_t number);
 uint64_t table_around(uint64_t space);
 bool table_would_remove(uint64_t control);

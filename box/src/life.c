@@ -120,7 +120,7 @@ void process_ended(struct process *process, int status)
 		table_do(PIDTAB_WAIT, process->root, process->spare, PIDTAB_CHILD);
 	}
 	/* The table's status has eight bits: a signal is told as a shell tells it. */
-	effects = table_exit(process->root, (uint32_t)code, &count);
+	effects = table_exit(process->root, (uint32_t)code, process->is_init, &count);
 	process->ended = true;
 	for (uint64_t i = 0; i < count; i++)
 		take_effect(&effects[i], process);

@@ -101,14 +101,20 @@ static void *with_room(void *list, uint64_t *room, uint64_t wanted, size_t size)
 	return need(realloc(list, wanted * size));
 }
 
-/* What the exit did. The list stands until the next exit. */
-const struct pidtab_effect *table_exit(uint32_t caller, uint32_t status, uint64_t *count)
+/* What the exit did to others: nothing to anybody where it is no init's and leaves no child, and then the table need not tell. The list stands until the
+ * next exit. */
+const struct pidtab_effect *table_exit(uint32_t caller, uint32_t status, bool is_init, uint64_t *count)
 {
 	static struct pidtab_effect *effects;
 	static uint64_t room;
 	const struct pidtab_call call = { .operation = PIDTAB_EXIT, .caller = caller, .number = status };
 	uint32_t told;
 
+	*count = 0;
+	if (!is_init && !table_first(SUPERVISOR, PIDTAB_CHILDREN, caller)) {
+		make(&call);
+		return effects;
+	}
 	*count = LEAST_ROOM;
 	do {
 		effects = with_room(effects, &room, *count, sizeof *effects);
