@@ -43,7 +43,11 @@ static struct wanted wanted_of_wait4(int32_t pid, bool is_known)
 static bool is_unheard(const struct thread *thread, int32_t pid)
 {
 	const struct process *child = pid > 0 ? process_seen(thread->process, (uint32_t)pid) : NULL;
+	uint64_t count;
+	const uint32_t *children = table_list(SUPERVISOR, PIDTAB_CHILDREN, thread->process->root, &count);
 
+	for (uint64_t i = 0; i < count && pid <= 0 && !(child && child->ends_unheard); i++)
+		child = process_of_root(children[i]);
 	return child && child->ends_unheard;
 }
 

@@ -63,16 +63,19 @@ static bool has_unfetched_end(void)
 	return waitid(P_ALL, 0, &info, WEXITED | WNOHANG | WNOWAIT | __WALL) || info.si_pid;
 }
 
-/* Whether the process has children, all of which live. The kernel shows no end to a parent before it is fetched here. */
-static bool has_live_children_alone(const struct process *process)
+/* Those whom a wait is for, as far as that is one child, or any. */
+enum meant { NOBODY_THERE, ALL_LIVE, SOME_ENDED };
+
+/* The kernel shows no end to a parent before it is fetched here. */
+static enum meant children_of(const struct process *process)
 {
 	uint64_t count;
 	const uint32_t *children = table_list(SUPERVISOR, PIDTAB_CHILDREN, process->root, &count);
 
 	for (uint64_t i = 0; i < count; i++)
 		if (!is_live(process_of_root(children[i])))
-			return false;
-	return count > 0;
+			return SOME_ENDED;
+	return count > 0 ? ALL_LIVE : NOBODY_THERE;
 }
 
 /* Whom the wait is for, if that is one process. */
@@ -83,12 +86,13 @@ static const struct process *one_meant(const struct thread *thread)
 	return pid > 0 ? process_seen(thread->process, (uint32_t)pid) : NULL;
 }
 
-/* Whether all whom the wait is for live, as far as it is for one child, or for any. */
-static bool is_for_live(const struct thread *thread, const struct process *child)
+static enum meant meant_by(const struct thread *thread, const struct process *child)
 {
 	const struct process *caller = thread->process;
 
-	return call_argument(thread, 0) == -1 ? has_live_children_alone(caller) : is_live(child) && parent_of(child) == caller;
+	if (call_argument(thread, 0) == -1)
+		return children_of(caller);
+	return is_live(child) && parent_of(child) == caller ? ALL_LIVE : SOME_ENDED;
 }
 
 /* Whether the kernel has a child of the process that the table has not, and that a wait for any might find. */
@@ -99,24 +103,30 @@ static bool may_have_others(const struct thread *thread)
 
 /* Whether a SIGCHLD is sure to stop the caller right behind its wait: its only thread waits for the end of children that live, and
  * neither ignores nor blocks the signal. Another signal that interrupts it stops it too. */
-static bool is_ended_by_signal(const struct thread *thread, const struct process *child)
+static bool is_ended_by_signal(const struct thread *thread, enum meant meant)
 {
 	const struct process *caller = thread->process;
 	uint64_t blocked;
 
 	if (call_argument(thread, 2) != 0 || threads_of(caller) != 1 || caller->shares_handlers || caller->ignores_children || caller->wants_no_zombies)
 		return false;
-	if (!is_for_live(thread, child) || may_have_others(thread))
+	if (meant != ALL_LIVE || may_have_others(thread))
 		return false;
 	return !ptrace(PTRACE_GETSIGMASK, thread->tid, sizeof blocked, &blocked) && !(blocked >> (SIGCHLD - 1) & 1);
 }
 
 /* Whether the wait finds nobody, and does not wait. */
-static bool is_in_vain(const struct thread *thread, const struct process *child)
+static bool is_in_vain(const struct thread *thread, enum meant meant)
 {
-	if (call_argument(thread, 2) != WNOHANG || !is_for_live(thread, child))
+	if (call_argument(thread, 2) != WNOHANG || meant != ALL_LIVE)
 		return false;
 	return call_argument(thread, 0) != -1 || !takes_orphans(thread->process) || !has_unfetched_end();
+}
+
+/* Whether nobody is there to be waited for, and the call has no fault besides. */
+static bool is_for_nobody(const struct thread *thread, enum meant meant)
+{
+	return meant == NOBODY_THERE && !(call_argument(thread, 2) & ~(WNOHANG | WUNTRACED | WCONTINUED)) && !may_have_others(thread);
 }
 
 /* The exit of such a wait is not seen: what is to do behind it is done where the signal stops it, which saves a stop. One that finds
@@ -124,14 +134,17 @@ static bool is_in_vain(const struct thread *thread, const struct process *child)
 enum onward enter_wait4(struct thread *thread, struct registers *registers)
 {
 	const struct process *child = one_meant(thread);
+	enum meant meant = meant_by(thread, child);
 	enum onward onward;
 
-	if (!checking && is_in_vain(thread, child))
+	if (!checking && is_in_vain(thread, meant))
 		return answer_with(thread, 0);
+	if (!checking && is_for_nobody(thread, meant))
+		return answer_with(thread, -ECHILD);
 	if (child)
 		registers_set_argument(registers, 0, (uint64_t)child->real);
 	onward = child ? watch(thread, registers) : translate(thread, registers);
-	thread->has_no_exit = is_ended_by_signal(thread, child);
+	thread->has_no_exit = is_ended_by_signal(thread, meant);
 	return thread->has_no_exit ? GO : onward;
 }
 

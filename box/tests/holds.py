@@ -46,7 +46,7 @@ def often(tell, name, words, times, **how):
 
 # How often a call stops at most. A fork is counted with the wait for its child, whose own stops are not.
 STOPS = (("query", 1), ("open", 1), ("receive", 1), ("receive-passed", 2), ("descriptor", 0), ("descriptor-proc", 1),
-    ("fork", 5), ("fork-any", 4), ("poll", 1), ("action", 0))
+    ("fork", 5), ("fork-any", 4), ("poll", 1), ("poll-none", 1), ("action", 0))
 OFTEN = 200
 
 

@@ -110,7 +110,7 @@ int main(int count, char **words)
 		nothing, ask_descriptor },
 		     { "descriptor-proc", open_proc, ask_descriptor }, { "open", nothing, open_file }, { "query", nothing,
 		     	ask }, { "fork", nothing, wait_for_child }, { "fork-any", nothing, wait_for_any }, { "poll", begin_child, poll_children },
-		     { "action", nothing, ask_action } };
+		     { "poll-none", nothing, poll_children }, { "action", nothing, ask_action } };
 
 	for (size_t i = 0; count == 3 && i < sizeof ways / sizeof ways[0]; i++)
 		if (!strcmp(words[1], ways[i].name)) {
@@ -119,6 +119,6 @@ int main(int count, char **words)
 				ways[i].act();
 			return 0;
 		}
-	fputs("usage: stops receive|receive-passed|descriptor|descriptor-proc|open|query|fork|fork-any|poll|action COUNT\n", stderr);
+	fputs("usage: stops receive|receive-passed|descriptor|descriptor-proc|open|query|fork|fork-any|poll|poll-none|action COUNT\n", stderr);
 	return MISUSED;
 }
