@@ -13,7 +13,7 @@
 
 bool shows_proc = true;
 
-enum { PAGE = 4096 };
+enum { PAGE = 4096, USUAL_PATH = 192 };
 _Static_assert((int)LONGEST_PATH <= (int)ROOM, "a path fits into the room of a thread");
 
 /* ---- a path, component by component ---- */
@@ -146,12 +146,13 @@ static bool may_be_in_proc(const char *head, size_t size)
 	return isdigit((unsigned char)head[0]);
 }
 
+/* Most paths are short: to read all that may be one takes longer. */
 bool read_path(pid_t tid, uint64_t at, char *path)
 {
 	for (size_t done = 0; done < LONGEST_PATH;) {
-		size_t size = PAGE - (at + done) % PAGE;
+		size_t size = PAGE - (at + done) % PAGE, most = done ? LONGEST_PATH - done : USUAL_PATH;
 
-		size = size < LONGEST_PATH - done ? size : LONGEST_PATH - done;
+		size = size < most ? size : most;
 		if (!read_memory(tid, at + done, path + done, size))
 			return false;
 		if (memchr(path + done, 0, size))
@@ -233,16 +234,23 @@ enum onward take_path(struct thread *thread, struct registers *registers, int in
 	return watch(thread, registers);
 }
 
+/* The call gets the path by the kernel's numbers. */
+static enum onward translate_path(struct thread *thread, struct registers *registers, int index, const struct place *place)
+{
+	char path[LONGEST_PATH];
+
+	if (!place->is_translated)
+		return GO;
+	if (!place_write(place, path))
+		return answer_with(thread, -ENAMETOOLONG);
+	return room_take(thread) ? take_path(thread, registers, index, path) : room_map(thread);
+}
+
 static enum onward path_enter(struct thread *thread, struct registers *registers, int index, bool has_folder)
 {
 	struct place place;
-	char path[LONGEST_PATH];
 
-	if (!is_in_proc(&place, thread, index, has_folder) || !place.is_translated)
-		return GO;
-	if (!place_write(&place, path))
-		return answer_with(thread, -ENAMETOOLONG);
-	return room_take(thread) ? take_path(thread, registers, index, path) : room_map(thread);
+	return is_in_proc(&place, thread, index, has_folder) ? translate_path(thread, registers, index, &place) : GO;
 }
 
 enum onward enter_path(struct thread *thread, struct registers *registers)
@@ -264,8 +272,10 @@ static enum onward readlink_enter(struct thread *thread, struct registers *regis
 	char text[64];
 	int size;
 
-	if (!is_in_proc(&place, thread, index, has_folder) || !place.is_self)
-		return path_enter(thread, registers, index, has_folder);
+	if (!is_in_proc(&place, thread, index, has_folder))
+		return GO;
+	if (!place.is_self)
+		return translate_path(thread, registers, index, &place);
 	size = snprintf(text, sizeof text, "%u", number_of(thread->process->name, thread->process));
 	if (place.where == IN_TASK)
 		size += snprintf(text + size, sizeof text - (size_t)size, "/task/%u", thread_seen(thread));
