@@ -153,6 +153,7 @@ static struct process *make_init(pid_t real, uint64_t group)
 
 static pid_t start(char **words, uint64_t group)
 {
+	static const struct sigaction by_waits = { .sa_handler = SIG_DFL, .sa_flags = SA_NOCLDSTOP }; /* stops are no signals */
 	struct sigaction former;
 	pid_t init_real;
 	struct process *init;
@@ -160,7 +161,7 @@ static pid_t start(char **words, uint64_t group)
 
 	sigaction(SIGCHLD, NULL, &former);
 	be_supervisor();
-	signal(SIGCHLD, SIG_DFL);
+	sigaction(SIGCHLD, &by_waits, NULL);
 	if (pipe2(ready, O_CLOEXEC))
 		die("the start");
 	init_real = fork();
