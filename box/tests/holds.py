@@ -244,11 +244,11 @@ def bombs(tell):
     tell.say("bombs", f"{len(BOMBS)} limits")
 
 
-# Numbers of the kernel's namespace that the box runs in: each above 300 comes again after a hundred forks.
+# Numbers of the kernel's namespace that the box runs in: each above 300 comes again after a hundred forks, and more than these do not live at once.
 FEW_NUMBERS, FORKS = 400, 350
 REUSED = "lives True\nended ESRCH\n"
 REUSED_FAULT = ("copies.c", " || name->root != copy->root", "")
-FORKERS, STORMED = 140, "140 ended, 0 of them badly\n"
+FORKERS, STORMED = 90, "90 ended, 0 of them badly\n"
 STORM_FAULT = ("forks.c", "\tif (!is_thread)\n\t\tsettle_former(thread, real);\n", "")
 
 
@@ -261,7 +261,7 @@ def storm_again(tell):
     """A number that comes again while the stop behind the wait for its former process is not reported yet."""
     storm, faulty = rig.compiled("storm", "-pthread"), faults.build("a number that comes soon", *STORM_FAULT)
     for box, is_right in ((BOX, True), (faulty, False)):
-        found = {in_few_numbers([*ONE_PROCESSOR, box, "--check", storm, "at-once", FORKERS, "fork"]) for _ in range(3)}
+        found = {in_few_numbers([*ONE_PROCESSOR, box, "--check", storm, "at-once", FORKERS, "fork"]) for _ in range(5)}
         if (found == {STORMED}) != is_right:
             tell.fault("reused at once", f"{box}: {found}")
 
