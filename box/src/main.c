@@ -153,7 +153,7 @@ static struct process *make_init(pid_t real, uint64_t group)
 
 static pid_t start(char **words, uint64_t group)
 {
-	static const struct sigaction by_waits = { .sa_handler = SIG_DFL, .sa_flags = SA_NOCLDSTOP }; /* stops are no signals */
+	static const struct sigaction by_waits = { .sa_handler = SIG_DFL, .sa_flags = SA_NOCLDSTOP }; /* no signal at stops */
 	struct sigaction former;
 	pid_t init_real;
 	struct process *init;

@@ -235,7 +235,8 @@ enum onward take_path(struct thread *thread, struct registers *registers, int in
 }
 
 /* The call gets the path by the kernel's numbers. */
-static enum onward translate_path(struct thread *thread, struct registers *registers, int index, const struct place *place)
+static enum onward translate_path(struct thread *thread, struct registers *registers, int index,
+	const struct place *place)
 {
 	char path[LONGEST_PATH];
 

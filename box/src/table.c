@@ -101,8 +101,8 @@ static void *with_room(void *list, uint64_t *room, uint64_t wanted, size_t size)
 	return need(realloc(list, wanted * size));
 }
 
-/* What the exit did to others: nothing to anybody where it is no init's and leaves no child, and then the table need not tell. The list stands until the
- * next exit. */
+/* What the exit did to others: nothing where it is no init's and leaves no child, and then the table need not tell. The
+ * list stands until the next exit. */
 const struct pidtab_effect *table_exit(uint32_t caller, uint32_t status, bool is_init, uint64_t *count)
 {
 	static struct pidtab_effect *effects;

@@ -126,7 +126,9 @@ static bool is_in_vain(const struct thread *thread, enum meant meant)
 /* Whether nobody is there to be waited for, and the call has no fault besides. */
 static bool is_for_nobody(const struct thread *thread, enum meant meant)
 {
-	return meant == NOBODY_THERE && !(call_argument(thread, 2) & ~(WNOHANG | WUNTRACED | WCONTINUED)) && !may_have_others(thread);
+	int64_t others = call_argument(thread, 2) & ~(WNOHANG | WUNTRACED | WCONTINUED);
+
+	return meant == NOBODY_THERE && !others && !may_have_others(thread);
 }
 
 /* The exit of such a wait is not seen: what is to do behind it is done where the signal stops it, which saves a stop. One that finds

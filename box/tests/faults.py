@@ -17,7 +17,8 @@ FAULTS = (
      "(void)0;", "orphan"),
     ("a number is another one", "names.c", "return numbers_of(name, caller, numbers) ? numbers[0] : 0;",
      "return numbers_of(name, caller, numbers) ? numbers[0] + (numbers[0] == 4) : 0;", "groups"),
-    ("an exit tells no adoption", "table.c", "!is_init && !table_first(SUPERVISOR, PIDTAB_CHILDREN, caller)", "!is_init", "orphan"),
+    ("an exit tells no adoption", "table.c", "!is_init && !table_first(SUPERVISOR, PIDTAB_CHILDREN, caller)",
+     "!is_init", "orphan"),
     ("a session is its group", "groups.c", "return table_do(call->operation, thread->process->root, number, 0);",
      "return table_do(PIDTAB_GETPGID, thread->process->root, number, 0);", "groups"),
 )

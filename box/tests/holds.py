@@ -244,7 +244,8 @@ def bombs(tell):
     tell.say("bombs", f"{len(BOMBS)} limits")
 
 
-# Numbers of the kernel's namespace that the box runs in: each above 300 comes again after a hundred forks, and more than these do not live at once.
+# Numbers of the kernel's namespace that the box runs in: each above 300 comes again after a hundred forks. More
+# children than these do not live at once.
 FEW_NUMBERS, FORKS = 400, 350
 REUSED = "lives True\nended ESRCH\n"
 REUSED_FAULT = ("copies.c", " || name->root != copy->root", "")

@@ -119,6 +119,7 @@ int main(int count, char **words)
 				ways[i].act();
 			return 0;
 		}
-	fputs("usage: stops receive|receive-passed|descriptor|descriptor-proc|open|query|fork|fork-any|poll|poll-none|action COUNT\n", stderr);
+	fputs("usage: stops receive|receive-passed|descriptor|descriptor-proc|open|query|fork|fork-any|poll|poll-none|action "
+	      "COUNT\n", stderr);
 	return MISUSED;
 }

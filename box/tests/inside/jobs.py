@@ -21,7 +21,7 @@ class Shell:
     def __init__(self, *words):
         self.pid, self.file = pty.fork()
         if self.pid == 0:
-            signal.signal(signal.SIGINT, signal.SIG_DFL) # a test that is run behind a shell ignores it
+            signal.signal(signal.SIGINT, signal.SIG_DFL) # in the background of a shell it is ignored
             os.execvpe(words[0], words, {"PS1": PROMPT, "PATH": os.environ["PATH"], "TERM": "dumb", "HISTFILE": ""})
         self.text = ""
 
