@@ -7,7 +7,7 @@ use Rattle.pid_types.proofs.General.{nothing, held}
 use Rattle.pid_types.specs.declared.call.Kind.{Kind}
 use Rattle.pid_types.specs.declared.call.Kind.TheVariants.{Task as AsTask, Group, Session}
 use Rattle.pid_types.specs.Names.{beside}
-use Rattle.pid_numbers.specs.Numbering.{Numbering, Identifier, identifier_at, namespace_at, path_at, number_in, number_of, new_identifier, uses}
+use Rattle.pid_numbers.specs.Numbering.{Numbering, Identifier, Namespace, identifier_at, namespace_at, path_at, number_in, number_of, new_identifier, uses, moved as cursor_moved}
 use Rattle.task_tree.specs.declared.Task.{Task}
 use Rattle.task_tree.specs.Tree.{TreeOfTasks, task_at, parent_of, rank_of, waits_for, lives}
 use Rattle.pids_charge.specs.Charges.{Home, home_at, stands, all_tasks, ChangesHome}
@@ -202,6 +202,11 @@ parent_task a b same parents k p e = ap is_some (same.tasks p) ∙ parents k p (
 -- a task that it comes from is in a group and a session
 pub one_parent : (s : Store) → IsStore s → (from : ℕ) → is_some (task_at s.tree from) ≡ true → (p : ℕ) → Some from ≡ Some p → IsSome (membership_at s.members p)
 one_parent s w from on p e = subst (λ (q : ℕ). IsSome (membership_at s.members q)) (ap (λ o. option_map_or (λ (n : ℕ). n) o 0) e) (w.members from ∙ on)
+
+-- a draw keeps the path
+pub path_moved : (path numbers : List ℕ) (s : ℕ) (o : Option Namespace) → option_map_or (λ t. t.path) (option_map (cursor_moved path numbers s) o) [] ≡ option_map_or (λ t. t.path) o []
+path_moved path numbers s None = refl
+path_moved path numbers s (Some t) = refl
 
 -- a namespace with a path is not a new one
 pub other_space : (b : Numbering) (new p : ℕ) → namespace_at b new ≡ None → 0 < length (path_at b p) → p ≢ new

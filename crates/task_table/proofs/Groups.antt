@@ -23,11 +23,11 @@ flip m n = elim (cases_eq m n) [
 ]
 
 -- one use of a kind is none of another
-one_of : (b : Bool) → one_if (b && true) ≡ one_if b
+pub one_of : (b : Bool) → one_if (b && true) ≡ one_if b
 one_of true = refl
 one_of false = refl
 
-none_of : (b : Bool) → one_if (b && false) ≡ 0
+pub none_of : (b : Bool) → one_if (b && false) ≡ 0
 none_of true = refl
 none_of false = refl
 

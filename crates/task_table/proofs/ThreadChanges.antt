@@ -5,6 +5,7 @@ use Rattle.std.specs.Option.{option_map_or}
 use Rattle.std.specs.List.{filter}
 use Rattle.std.proofs.lemmas.List.{get_or-set_same, get_or-set_other}
 use Rattle.std.proofs.lemmas.Bool.{cases_eq}
+use Rattle.pid_types.proofs.General.{nothing}
 use Rattle.pid_types.specs.declared.call.Kind.{Kind}
 use Rattle.pid_types.specs.declared.call.Kind.TheVariants.{Task as AsTask, Group, Session}
 use Rattle.pid_types.specs.declared.plain.Life.TheVariants.{Live}
@@ -16,20 +17,13 @@ use Rattle.pids_charge.specs.Charges.{Charges, Home, home_at, live_at, zombies_a
 use Rattle.task_table.specs.Store.{Store, IsStore, IsThreaded, IsLess, uses_at, one_if, is_homed, bare, bare_at}
 use Rattle.task_table.proofs.Less.{AreRanks}
 use Rattle.task_table.proofs.Changes.{count-set}
+use Rattle.task_table.proofs.Groups.{one_of, none_of}
 use Rattle.task_table.proofs.Rest.{count-pointwise}
 use Rattle.task_table.proofs.HomeCounts as homes
 
 -- a task that is charged as the thread is
 abbrev pub as_task : Thread → Task
 as_task t = record { children_space = t.children_space; home = t.home; executed = false; subreaper = false; life = Live }
-
-and_true : (b : Bool) → one_if (b && true) ≡ one_if b
-and_true true = refl
-and_true false = refl
-
-and_not : (b : Bool) → one_if (b && false) ≡ 0
-and_not true = refl
-and_not false = refl
 
 -- what is counted where a thread came
 pub came : (old new : Charges) (t : Thread) → ChangesHome old new t.home (option_map (λ (h : Home). record h { live = h.live + 1 }) (home_at old t.home)) → stands old t.home ≡ true → (c : ℕ)
@@ -38,8 +32,8 @@ came old new t change up c =
     let h = homes.one-came old new (as_task t) change refl up c in
     let live = h.0 in
     let zombies = h.1 in
-    let a = and_true (t.home == c) in
-    let b = and_not (t.home == c) in
+    let a = one_of (t.home == c) in
+    let b = none_of (t.home == c) in
     (omega (arith, live, a), omega (arith, zombies, b))
 
 -- and where one went
@@ -49,8 +43,8 @@ went old new t change some c =
     let h = homes.live-left old new (as_task t) change refl some c in
     let live = h.0 in
     let zombies = h.1 in
-    let a = and_true (t.home == c) in
-    let b = and_not (t.home == c) in
+    let a = one_of (t.home == c) in
+    let b = none_of (t.home == c) in
     (omega (arith, live, a), omega (arith, zombies, b))
 
 -- and where one moved
@@ -59,10 +53,10 @@ pub moved : (old new : Charges) (t : Thread) (to : ℕ) → ((k : ℕ) → home_
 moved old new t to change some up c =
     let live = homes.live-moved old new (as_task t) to change refl some up c in
     let zombies = homes.zombies-moved old new (as_task t) to change refl c in
-    let a = and_true (t.home == c) in
-    let b = and_true (to == c) in
-    let d = and_not (t.home == c) in
-    let e = and_not (to == c) in
+    let a = one_of (t.home == c) in
+    let b = one_of (to == c) in
+    let d = none_of (t.home == c) in
+    let e = none_of (to == c) in
     (omega (arith, live, a, b), omega (arith, zombies, d, e))
 
 -- a thread's home has a live one
@@ -95,10 +89,6 @@ roomier-threaded b old new w keeps = record { held = λ i. w.held i ∙ sym (ap 
 -- no thread is at a key without an identifier
 pub vacant : (b : Numbering) (old new : ThreadsByKey) → IsThreaded b old → KeepsKeys old new → (key : ℕ) → identifier_at b key ≡ None → thread_with new key ≡ None
 vacant b old new w keeps key fresh = keeps.threads key ∙ nothing (thread_with old key) (sym (w.held key) ∙ ap is_thread fresh)
-  where
-    nothing : (o : Option Thread) → is_some o ≡ false → o ≡ None
-    nothing None e = refl
-    nothing (Some x) e = absurd (cc)
 
 -- another thread, or none, is at one key
 pub changed : (s : Store) (b : Numbering) (charges : Charges) (threads : ThreadsByKey) → IsStore s → (key : ℕ) (t : Option Thread) → ((k : Kind) (i : ℕ) → uses_at b k i ≡ uses_at s.numbering k i)

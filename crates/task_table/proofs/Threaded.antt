@@ -4,6 +4,7 @@ use Rattle.std.proofs.Common.{◌≡◌, ◌≢◌, ◌⊎◌, inl, inr, ℕ, �
 use Rattle.std.specs.Option.{option_map_or}
 use Rattle.std.specs.Prelude.{slice_index_or}
 use Rattle.std.proofs.lemmas.Bool.{cases_eq}
+use Rattle.pid_types.proofs.General.{nothing}
 use Rattle.pid_types.specs.declared.call.Kind.{Kind}
 use Rattle.pid_types.specs.declared.call.Kind.TheVariants.{Task as AsTask, Group, Session}
 use Rattle.pid_numbers.specs.Numbering.{Numbering, Identifier, identifier_at, is_used, is_thread, uses, more, less, left_of}
@@ -157,10 +158,6 @@ pub alone-borne : (s : Store) → IsStore s → IsThreaded s.numbering s.threads
     → HasNoThreads s.threads
 alone-borne s w t borne = record { none = λ k. nothing (thread_with s.threads k) (sym (t.held k) ∙ no-thread k (identifier_at s.numbering k) refl); stays = t.stays }
   where
-    nothing : (o : Option Thread) → is_some o ≡ false → o ≡ None
-    nothing None e = refl
-    nothing (Some x) e = absurd (cc)
-
     no-thread : (k : ℕ) (o : Option Identifier) → identifier_at s.numbering k ≡ o → is_thread (identifier_at s.numbering k) ≡ false
     no-thread k None e = ap is_thread e
     no-thread k (Some u) e =

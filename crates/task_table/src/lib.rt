@@ -191,7 +191,7 @@ impl Tasks {
         self.residents.move_to(key, to);
     }
 
-    /// A live task ends, and waits for its parent by its number in the parent's namespace.
+    /// A live task ends, and waits for its parent by its number in the parent's namespace. Its threads stay.
     #[inline(always)]
     pub fn finish(&mut self, key: TaskKey, task: Task, end: Ended)
         requires there { task_at self.old.tree key ≡ Some task }
@@ -264,7 +264,7 @@ impl Tasks {
         self.tree.hand_on(from, to);
     }
 
-    /// A task goes to another group, all of whose members are in its session, and which no thread has its number from.
+    /// A task goes to another group, whose number is no thread's and all of whose members are in its session.
     pub fn set_group(&mut self, key: TaskKey, group: IdentKey)
         requires there { IsSome (membership_at self.old.members key) }
         requires group { IsUsedAt self.old.numbering group }
@@ -324,7 +324,8 @@ impl Tasks {
         self.move_to(key, key, key);
     }
 
-    /// A task is gone. Its children, if it has any, keep its key as their parent's.
+    /// A task is gone. Its children, if it has any, keep its key as their parent's, and its threads stay as their
+    /// process's.
     #[inline(always)]
     pub fn remove(&mut self, key: TaskKey, task: Task)
         requires { task_at self.old.tree key ≡ Some task }

@@ -47,9 +47,11 @@ impl Tasks {
         &self.threads
     }
 
-    /// A thread begins in a process, with the planned numbers in the namespace and those around it: `clone(2)` with
-    /// `CLONE_THREAD`. It is charged to its home. Its key is returned. The error is want of memory, and then nothing
-    /// has changed but the room.
+    /// A thread begins in a process, with the planned numbers in the namespace and those around it, innermost first:
+    /// `clone(2)` with `CLONE_THREAD`. The caller sees to it that the process lives in that namespace. The thread is
+    /// charged to its home. Its key is returned, which is below 2^30. The error is want of memory or of keys, and then
+    /// nothing has changed but the room. It costs what the draw does, a step for each control group around the home,
+    /// and one for each key that is new to the threads.
     pub fn start_thread(
         &mut self,
         space: SpaceKey,
@@ -75,7 +77,8 @@ impl Tasks {
         Ok(key)
     }
 
-    /// A thread is gone at once, with its numbers and its charge: nobody can wait for it (`clone(2)`).
+    /// A thread is gone at once, with its numbers and its charge: nobody can wait for it (`clone(2)`). It costs a step
+    /// for each level of namespaces and for each control group around the home, and takes no memory.
     pub fn end_thread(&mut self, key: TaskKey, thread: Thread)
         requires { IsThread self.old.threads key thread }
         ensures threads { self.new.threads
@@ -93,7 +96,8 @@ impl Tasks {
         self.numbers.free_thread(key);
     }
 
-    /// A thread goes to another control group, or to the one that it is in.
+    /// A thread goes to another control group, or to the one that it is in. It costs a step for each control group from
+    /// both up to the nearest above both, and takes no memory.
     pub fn move_thread(&mut self, key: TaskKey, thread: Thread, to: ControlKey)
         requires there { IsThread self.old.threads key thread }
         requires stands { stands self.old.charges to ≡ true }

@@ -1,11 +1,11 @@
 -- The parts agree again only at the end; the new namespace is on no older path, so the ranks of waiting children stay as they are
-use Rattle.std.proofs.Common.{◌≡◌, true, false, ◌+◌, ℕ, List, [], None, Some, Option, is_some, option_map, if◌then◌else◌, refl, sym, ap, subst, arith, ◌∙◌}
+use Rattle.std.proofs.Common.{◌≡◌, true, false, ◌+◌, ℕ, [], None, Some, is_some, if◌then◌else◌, refl, sym, ap, subst, arith, ◌∙◌}
 use Rattle.std.proofs.lemmas.List.Sums.{count_by-le-length}
 use Rattle.std.specs.Option.{option_map_or}
 use Rattle.std.specs.Prelude.{slice_set, slice_index_or, drop}
 use Rattle.pids_charge.specs.Charges.{Home, stands}
 use Rattle.pid_types.specs.declared.call.Kind.TheVariants.{Group, Session}
-use Rattle.pid_numbers.specs.Numbering.{Namespace, identifier_at, namespace_at, path_at, is_used, moved as cursor_moved}
+use Rattle.pid_numbers.specs.Numbering.{identifier_at, namespace_at, path_at, is_used}
 use Rattle.task_table.specs.Store.{Store, is_used_at}
 use Rattle.task_table.specs.Residents.{live_home}
 use Rattle.task_tree.specs.Tree.{task_at}
@@ -80,10 +80,6 @@ settle-requires-clause-few c k i =
 pub returns-clause-namespaces : goal.returns-clause-namespaces
 returns-clause-namespaces c = grind arith
 
-path_moved : (path numbers : List ℕ) (s : ℕ) (o : Option Namespace) → option_map_or (λ t. t.path) (option_map (cursor_moved path numbers s) o) [] ≡ option_map_or (λ t. t.path) o []
-path_moved path numbers s None = refl
-path_moved path numbers s (Some t) = refl
-
 pub invariant_of-self-2 : goal.invariant_of-self-2
 invariant_of-self-2 c = record {
   agree =
@@ -106,7 +102,7 @@ invariant_of-self-2 c = record {
       (λ j differs. c.settle.ensures.bare j ∙ bare_drawn j (λ e. differs (e ∙ key)))
       (λ p long. ap (λ l. option_map_or (λ t. t.path) (slice_index_or l p None) []) c.settle.ensures.namespaces
       ∙ ap (λ o. option_map_or (λ t. t.path) o []) (c.in_ok-space.ensures.namespaces p (births.other_space c.self.inside.numbers c.in_ok-space.space p c.in_ok-space.ensures.fresh.1 long))
-      ∙ path_moved (path_at c.self.inside.numbers c.args.outer) (drop 1 c.args.numbers.now) p (namespace_at c.self.inside.numbers p))
+      ∙ births.path_moved (path_at c.self.inside.numbers c.args.outer) (drop 1 c.args.numbers.now) p (namespace_at c.self.inside.numbers p))
       c.laws-2.ensures.full (λ k. ap (λ l. slice_index_or l k None) c.settle.ensures.ranks)
       (λ k p r e. births.ranked-there old w c.laws-3.ensures.waiting k p r e
       (births.parent_task c.args.self.now old same c.requires.parents)) w.ranks);

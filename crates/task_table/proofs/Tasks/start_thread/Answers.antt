@@ -1,20 +1,16 @@
 -- The drawn key is the one that room was made for; the parts agree again when the thread stands at it and is charged
-use Rattle.std.proofs.Common.{◌≡◌, ◌+◌, ℕ, List, [], None, Some, Option, false, is_some, option_map, refl, sym, ap, subst, arith, ◌∙◌}
+use Rattle.std.proofs.Common.{◌≡◌, ◌+◌, ℕ, [], None, Some, false, is_some, option_map, refl, sym, ap, subst, arith, ◌∙◌}
 use Rattle.std.proofs.lemmas.List.Sums.{count_by-le-length}
 use Rattle.std.specs.Option.{option_map_or}
 use Rattle.pids_charge.specs.Charges.{Home}
 use Rattle.std.specs.Prelude.{slice_index_or, ◌≢◌}
 use Rattle.std.proofs.lemmas.List.{get_or-set_same, get_or-set_other}
-use Rattle.pid_numbers.specs.Numbering.{Numbering, Namespace, identifier_at, is_thread, namespace_at, path_at, thread_identifier, moved as cursor_moved}
+use Rattle.pid_numbers.specs.Numbering.{Numbering, identifier_at, is_thread, namespace_at, path_at, thread_identifier}
 use Rattle.task_table.specs.Store.{Store, IsStore, IsThreaded, BeginsThread, bare, one_if, is_homed}
 use Rattle.task_table.proofs.Births as births
 use Rattle.task_table.proofs.Housed as housed
 use Rattle.task_table.proofs.ThreadChanges as threads
 use Rattle.task_table.proofs.Tasks.start_thread.Goals as goal
-
-path_moved : (path numbers : List ℕ) (s : ℕ) (o : Option Namespace) → option_map_or (λ t. t.path) (option_map (cursor_moved path numbers s) o) [] ≡ option_map_or (λ t. t.path) o []
-path_moved path numbers s None = refl
-path_moved path numbers s (Some t) = refl
 
 -- the drawn key is the one that room was made for
 fresh : (b : Numbering) (drawn key : ℕ) → drawn ≡ b.next → key ≡ b.next → identifier_at b drawn ≡ None → identifier_at b key ≡ None
@@ -87,7 +83,7 @@ invariant_of-self-2 c =
           (let a = c.charge.ensures.tasks in let b = ap (λ o. one_if (is_some o)) vacant in omega (arith, a, b))
           (births.ranks-born c.self.inside.numbers c.draw_thread.new.self c.self.inside.tree c.self.inside.tree c.in_ok-key.key new
           (λ j differs. ap (option_map bare) (others c j differs))
-          (λ p long. ap (λ o. option_map_or (λ t. t.path) o []) (c.in_ok-draw_thread.ensures.namespaces p) ∙ path_moved (path_at c.self.inside.numbers c.args.space) c.args.numbers.now p (namespace_at c.self.inside.numbers p))
+          (λ p long. ap (λ o. option_map_or (λ t. t.path) o []) (c.in_ok-draw_thread.ensures.namespaces p) ∙ births.path_moved (path_at c.self.inside.numbers c.args.space) c.args.numbers.now p (namespace_at c.self.inside.numbers p))
           c.laws.ensures.full (λ k. refl)
           (λ k p r e. births.ranked-there old c.self.invariant.agree c.laws-2.ensures.waiting k p r e parents) c.self.invariant.agree.ranks);
       threaded =
