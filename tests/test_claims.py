@@ -37,7 +37,7 @@ class Claims(unittest.TestCase):
         heads = re.findall(r"^- \*\*(.*?)\*\*", part("Crate by crate"), re.MULTILINE)
         named = {name for head in heads for name in quoted(head)}
         self.assertEqual(crates - named, WITHOUT)
-        self.assertEqual({name for name in named if not (CRATES / name).is_dir()}, {"teardown", "selection", "stat", "page", "residents", "space", "inside"})
+        self.assertEqual({name for name in named if not (CRATES / name).is_dir()}, {"teardown", "selection", "stat", "page", "residents", "space", "inside", "threads"})
 
     def test_the_names_of_the_code(self) -> None:
         files = [it for it in CRATES.rglob("*") if it.suffix in (".rt", ".antt") and "out" not in it.parts]

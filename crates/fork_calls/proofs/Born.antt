@@ -3,6 +3,8 @@ use Rattle.std.proofs.Common.{◌≡◌, inl, inr, ℕ, false, List, [], map, So
 use Rattle.std.specs.Option.{option_map_or}
 use Rattle.std.proofs.lemmas.Bool.{cases_eq}
 use Rattle.pid_types.specs.declared.plain.Life.TheVariants.{Live}
+use Rattle.pid_types.specs.declared.plain.Name.{Name}
+use Rattle.pid_types.specs.declared.plain.Space.{Space}
 use Rattle.pid_types.specs.State.{State, root_name}
 use Rattle.pid_types.specs.Names.{path_up, root_number, number_or_zero}
 use Rattle.pid_types.specs.Outcome.{sweep}
@@ -22,6 +24,15 @@ use Rattle.task_table.proofs.InUse.{member}
 use Rattle.task_table.proofs.Rows.{row-ext, rows-insert}
 use Rattle.task_table.proofs.Newborn.{KeepsNamespaces, Comes, some_of, named_in, group_in, session_in, name-kept, root_kept, home_kept, group_name, session_name, other_rows, born}
 use Rattle.task_table.proofs.Changed.{IsLess-same, swept}
+
+-- the numbers of a new name are seen as before the cursors moved
+pub reply-drawn : (planned : State) (path : List ℕ) (spaces : List Space) → with_cursors planned path ≡ spaces → (name new : Name) → name ≡ new → (i : ℕ)
+    → Forked (number_or_zero spaces name i) (root_number name) ≡ Forked (number_or_zero planned.spaces new i) (root_number new)
+unfolding with_cursors
+reply-drawn planned path spaces moved name new same i =
+    ap (λ l. Forked (number_or_zero l name i) (root_number name)) (sym moved)
+    ∙ ap (λ o. Forked (unwrap_or o 0) (root_number name)) (number-map_spaces planned.spaces (moved_cursor planned path) (λ x. refl) (λ x. refl) name i)
+    ∙ ap (λ n. Forked (number_or_zero planned.spaces n i) (root_number n)) same
 
 module _ (s s' : Store) (l : IsLawful s) (l' : IsLawful s') (kin : HasParents s) (key from : ℕ) (task : Task) (space : ℕ) (numbers : List ℕ)
     (begun : Begins s s' key (Some from) task (new_identifier space numbers)) (keeps : KeepsNamespaces s.numbering s'.numbering) where
@@ -64,12 +75,7 @@ module _ (s s' : Store) (l : IsLawful s) (l' : IsLawful s') (kin : HasParents s)
     pub reply-born : with_cursors planned (path_up planned.spaces t) ≡ spaces_of s'.numbering → (i : ℕ)
         → Forked (number_or_zero (spaces_of s'.numbering) (name_at s'.numbering key) i) (root_number (name_at s'.numbering key))
         ≡ Forked (number_or_zero planned.spaces (child_of planned (row_of s from caller) t).name i) (root_number (child_of planned (row_of s from caller) t).name)
-    unfolding with_cursors
-    reply-born spaces i =
-        ap (λ l. Forked (number_or_zero l (name_at s'.numbering key) i) (root_number (name_at s'.numbering key))) (sym spaces)
-        ∙ ap (λ o. Forked (unwrap_or o 0) (root_number (name_at s'.numbering key)))
-        (number-map_spaces planned.spaces (moved_cursor planned (path_up planned.spaces t)) (λ x. refl) (λ x. refl) (name_at s'.numbering key) i)
-        ∙ ap (λ n. Forked (number_or_zero planned.spaces n i) (root_number n)) name-born
+    reply-born spaces i = reply-drawn planned (path_up planned.spaces t) (spaces_of s'.numbering) spaces (name_at s'.numbering key) (child_of planned (row_of s from caller) t).name name-born i
 
   -- parents are tasks as before
   pub parents-born : IsSome (task_at s.tree from) → HasParents s'

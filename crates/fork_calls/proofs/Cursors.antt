@@ -8,33 +8,41 @@ use Rattle.pid_types.proofs.General.{apart}
 use Rattle.pid_types.specs.declared.plain.Space.{Space}
 use Rattle.pid_types.specs.Chains.{contains}
 use Rattle.pid_types.specs.State.{State}
-use Rattle.pid_types.specs.Names.{path_up}
+use Rattle.pid_types.specs.Names.{number, path_up, space_at}
 use Rattle.pid_types.specs.Fork.{drawn, moved_cursor, with_cursors}
 use Rattle.pid_numbers.specs.Numbering.{Numbering, Namespace, namespace_at, id_at, path_at, has_fallen_at, draw_in, moved}
 use Rattle.task_table.specs.Store.{Store, HasNoThreads}
-use Rattle.task_table.specs.View.{parent_id, space_of, spaces_of, state_of}
+use Rattle.task_table.specs.View.{name_at, parent_id, space_of, spaces_of, state_of}
 use Rattle.task_table.specs.Lawful.{HasLaws, IsLawful}
 use Rattle.task_table.proofs.Keys.{id_for, own_id, only, on_path, path-is, space_at-key, number-is_key}
 use Rattle.fork_calls.proofs.Draws.{IsPlanned, draw-key, map-draws, beside-map}
+use Rattle.task_table.proofs.InUse.{AreNamed, named-alone}
 use Rattle.task_table.proofs.Newborn.{KeepsNamespaces}
 
--- the own state of a store without threads is planned so
-pub IsPlanned-own : (s : Store) → IsLawful s → HasNoThreads s.threads → IsPlanned s (state_of s)
-IsPlanned-own s l alone = record {
-  rows = refl;
-  alone = alone;
-  threads = refl;
-  bound = refl;
-  numbers = λ k sp i u at e. number-is_key s.numbering l.numbering sp i k u e at;
+-- a state with a store's names, namespaces and bound is planned so
+pub IsPlanned-in : (s : Store) → IsLawful s → (state : State) → AreNamed s state → state.spaces ≡ spaces_of s.numbering → state.pid_max ≡ s.numbering.pid_max → IsPlanned s state
+IsPlanned-in s l state named spaces bound = record {
+  named = named;
+  bound = bound;
+  numbers = λ k sp i u at e. ap (λ x. number x (name_at s.numbering k) i) spaces ∙ number-is_key s.numbering l.numbering sp i k u e at;
   cursors = λ sp i t at e.
-      ap (λ o. unwrap_or (option_map (λ (x : Space). x.cursor) o) 0) (space_at-key s.numbering l.numbering sp i e) ∙ ap (λ o. option_map_or (λ t. t.cursor) o 0) at;
+      ap (λ x. unwrap_or (option_map (λ (y : Space). y.cursor) (space_at x i)) 0) spaces
+      ∙ ap (λ o. unwrap_or (option_map (λ (x : Space). x.cursor) o) 0) (space_at-key s.numbering l.numbering sp i e) ∙ ap (λ o. option_map_or (λ t. t.cursor) o 0) at;
 }
 
+-- so is the own state of a store without threads
+pub IsPlanned-own : (s : Store) → IsLawful s → HasNoThreads s.threads → IsPlanned s (state_of s)
+IsPlanned-own s l alone = IsPlanned-in s l (state_of s) (named-alone s l alone (state_of s) refl refl) refl refl
+
 -- what it draws along the path of a namespace is what its namespaces give
+pub drew-in : (s : Store) (l : IsLawful s) (state : State) → IsPlanned s state → (space t : ℕ) → id_at s.numbering space ≡ Some t
+    → map (λ q. unwrap_or (draw_in s.numbering q) 0) (path_at s.numbering space) ≡ map (drawn state) (path_up (spaces_of s.numbering) t)
+drew-in s l state p space t id =
+    sym (ap (map (drawn state)) (path-is s.numbering l.numbering space t 0 id (l.numbering.some space t id)) ∙ map-draws s l state p 0 space)
+
 pub drew-own : (s : Store) (l : IsLawful s) → HasNoThreads s.threads → (space t : ℕ) → id_at s.numbering space ≡ Some t
     → map (λ q. unwrap_or (draw_in s.numbering q) 0) (path_at s.numbering space) ≡ map (drawn (state_of s)) (path_up (spaces_of s.numbering) t)
-drew-own s l alone space t id =
-    sym (ap (map (drawn (state_of s))) (path-is s.numbering l.numbering space t 0 id (l.numbering.some space t id)) ∙ map-draws s l (state_of s) (IsPlanned-own s l alone) 0 space)
+drew-own s l alone = drew-in s l (state_of s) (IsPlanned-own s l alone)
 
 module _ (b : Numbering) (h : HasLaws b) where
   -- whether an id is on a path is whether its key is
@@ -85,23 +93,43 @@ module _ (b c : Numbering) (h : HasLaws b) (keeps : KeepsNamespaces b c) (planne
               ∙ ap (λ o. option_map_or (λ n. n + 1) o t.cursor) (sym (beside-map f p.1 path))
               ∙ sym (ap (λ o. option_map_or (λ t. t.cursor) o 0) after)
 
+-- where cursors alone move, namespaces have the ids and the paths that they had
+pub keeps-moved : (b c : Numbering) (path numbers : List ℕ) → ((q : ℕ) → namespace_at c q ≡ option_map (moved path numbers q) (namespace_at b q)) → KeepsNamespaces b c
+keeps-moved b c path numbers now q n e =
+    let z = now q ∙ ap (option_map (moved path numbers q)) e in
+    (ap (option_map (λ t. t.id)) z ∙ sym (ap (option_map (λ t. t.id)) e), ap (λ o. option_map_or (λ t. t.path) o []) z ∙ sym (ap (λ o. option_map_or (λ t. t.path) o []) e))
+
+pub id-kept : (b c : Numbering) → KeepsNamespaces b c → (q i : ℕ) → id_at b q ≡ Some i → id_at c q ≡ Some i
+id-kept b c keeps q i e = go (namespace_at b q) refl e
+  where
+    go : (o : Option Namespace) → namespace_at b q ≡ o → option_map (λ t. t.id) o ≡ Some i → id_at c q ≡ Some i
+    go None is e = absurd (cc)
+    go (Some n) is e = (keeps q n is).0 ∙ ap (option_map (λ t. t.id)) is ∙ e
+
 -- what a store's namespaces give along a path
 abbrev pub gives : Numbering → ℕ → ℕ
 gives b q = unwrap_or (draw_in b q) 0
 
 -- the namespaces after a fork into one of them
+pub spaces-moved-in : (s : Store) (l : IsLawful s) (state : State) → IsPlanned s state → state.spaces ≡ spaces_of s.numbering → (c : Numbering) → KeepsNamespaces s.numbering c
+    → (sp t : ℕ) → id_at s.numbering sp ≡ Some t → 0 < length (path_at s.numbering sp)
+    → c.order ≡ s.numbering.order → ((q : ℕ) → namespace_at c q ≡ option_map (moved (path_at s.numbering sp) (map (gives s.numbering) (path_at s.numbering sp)) q) (namespace_at s.numbering q))
+    → with_cursors state (path_up (spaces_of s.numbering) t) ≡ spaces_of c
+unfolding with_cursors drawn
+spaces-moved-in s l state p spaces c keeps sp t e some order now =
+    ap (map (moved_cursor state (path_up (spaces_of s.numbering) t))) spaces ∙ from s.numbering.order l.numbering.each ∙ sym (ap (map (space_of c)) order)
+  where
+    one : (q : ℕ × ℕ) → id_at s.numbering q.1 ≡ Some q.0 → moved_cursor state (path_up (spaces_of s.numbering) t) (space_of s.numbering q) ≡ space_of c q
+    one q at = space-moved s.numbering c l.numbering keeps state (path_at s.numbering sp) (path_up (spaces_of s.numbering) t) (gives s.numbering) q at (now q.1)
+        (ap (λ ids. contains ids q.0) (path-is s.numbering l.numbering sp t q.0 e some) ∙ contains-ids s.numbering l.numbering q.0 q.1 at (path_at s.numbering sp))
+        (λ on. ap (λ o. unwrap_or o 0) (draw-key s l state p q.1 q.0 at))
+
+    from : (ps : List (ℕ × ℕ)) → AllByRecursion (λ p. id_at s.numbering p.1 ≡ Some p.0) ps
+        → map (moved_cursor state (path_up (spaces_of s.numbering) t)) (map (space_of s.numbering) ps) ≡ map (space_of c) ps
+    from [] all = refl
+    from (q ∷ qs) all = λ i. one q all.0 i ∷ from qs all.1 i
+
 pub spaces-moved : (s : Store) (l : IsLawful s) → HasNoThreads s.threads → (c : Numbering) → KeepsNamespaces s.numbering c → (sp t : ℕ) → id_at s.numbering sp ≡ Some t → 0 < length (path_at s.numbering sp)
     → c.order ≡ s.numbering.order → ((q : ℕ) → namespace_at c q ≡ option_map (moved (path_at s.numbering sp) (map (gives s.numbering) (path_at s.numbering sp)) q) (namespace_at s.numbering q))
     → with_cursors (state_of s) (path_up (spaces_of s.numbering) t) ≡ spaces_of c
-unfolding with_cursors drawn
-spaces-moved s l alone c keeps sp t e some order now = from s.numbering.order l.numbering.each ∙ sym (ap (map (space_of c)) order)
-  where
-    one : (p : ℕ × ℕ) → id_at s.numbering p.1 ≡ Some p.0 → moved_cursor (state_of s) (path_up (spaces_of s.numbering) t) (space_of s.numbering p) ≡ space_of c p
-    one p at = space-moved s.numbering c l.numbering keeps (state_of s) (path_at s.numbering sp) (path_up (spaces_of s.numbering) t) (gives s.numbering) p at (now p.1)
-        (ap (λ ids. contains ids p.0) (path-is s.numbering l.numbering sp t p.0 e some) ∙ contains-ids s.numbering l.numbering p.0 p.1 at (path_at s.numbering sp))
-        (λ on. ap (λ o. unwrap_or o 0) (draw-key s l (state_of s) (IsPlanned-own s l alone) p.1 p.0 at))
-
-    from : (ps : List (ℕ × ℕ)) → AllByRecursion (λ p. id_at s.numbering p.1 ≡ Some p.0) ps
-        → map (moved_cursor (state_of s) (path_up (spaces_of s.numbering) t)) (map (space_of s.numbering) ps) ≡ map (space_of c) ps
-    from [] all = refl
-    from (p ∷ ps) all = λ i. one p all.0 i ∷ from ps all.1 i
+spaces-moved s l alone = spaces-moved-in s l (state_of s) (IsPlanned-own s l alone) refl

@@ -1,23 +1,22 @@
 -- What namespaces give next, in the model and in a store.
-use Rattle.std.proofs.Common.{◌≡◌, ◌≢◌, ◌⊎◌, inl, inr, ℕ, zero, suc, ◌<◌, ◌==◌, ◌||◌, List, [], ◌∷◌, length, map, find, get_or, Option, Some, None, is_none, if◌then◌else◌, refl, sym, ap, subst, ◌∙◌, arith, option_map, unwrap_or}
+use Rattle.std.proofs.Common.{◌≡◌, ◌≢◌, ◌⊎◌, inl, inr, ℕ, zero, suc, ◌<◌, ◌==◌, ◌||◌, List, [], ◌∷◌, length, map, find, get_or, Option, Some, None, is_none, if◌then◌else◌, refl, sym, ap, ◌∙◌, arith, option_map, unwrap_or}
 use Rattle.std.proofs.lemmas.Bool.{cases_eq, eq-eqb}
 use Rattle.pid_types.proofs.General.{apart}
 use Rattle.pid_types.specs.declared.plain.Name.{Name}
 use Rattle.pid_types.specs.Chains.{contains}
 use Rattle.pid_types.specs.Membership.{IsIn}
 use Rattle.pid_types.specs.State.{State, root_name}
-use Rattle.pid_types.specs.Names.{beside, in_use, names_in_use, number}
+use Rattle.pid_types.specs.Names.{beside, in_use, number}
 use Rattle.pid_types.specs.Draw.{draw, cursor_of}
 use Rattle.pid_types.specs.Fork.{drawn}
 use Rattle.model_laws.proofs.Lists.{find-map, find-same}
 use Rattle.pid_numbers.specs.Numbering.{Namespace, Identifier, namespace_at, id_at, identifier_at, number_of, path_at, draw_in}
 use Rattle.pid_numbers.proofs.Model.{draw-is}
-use Rattle.task_table.specs.Store.{Store, HasNoThreads}
-use Rattle.task_table.specs.View.{name_at, state_of}
+use Rattle.task_table.specs.Store.{Store}
+use Rattle.task_table.specs.View.{name_at}
 use Rattle.task_table.specs.Lawful.{IsLawful}
 use Rattle.task_table.proofs.Keys.{id_for, path-there}
-use Rattle.task_table.proofs.InUse.{used-from, used-in}
-use Rattle.task_table.proofs.Alone.{in_use-rows}
+use Rattle.task_table.proofs.InUse.{AreNamed}
 
 place_of : (xs : List Name) (a : Name) → IsIn a xs → (x : ℕ) × (x < length xs) × (get_or xs x root_name ≡ a)
 place_of [] a i = absurd i
@@ -29,11 +28,9 @@ at_place [] x lt = absurd (omega (arith, lt))
 at_place (y ∷ ys) zero lt = inl refl
 at_place (y ∷ ys) (suc x) lt = inr (at_place ys x (omega (arith, lt)))
 
--- a state with the rows of a store without threads, in which its identifiers have their numbers and its namespaces their cursors
+-- a state whose names in use are those of a store's identifiers, in which these have their numbers and its namespaces their cursors
 pub record IsPlanned (s : Store) (planned : State) : Type 0 where
-  pub rows : planned.rows ≡ (state_of s).rows
-  pub alone : HasNoThreads s.threads
-  pub threads : planned.threads ≡ []
+  pub named : AreNamed s planned
   pub bound : planned.pid_max ≡ s.numbering.pid_max
   pub numbers : (k sp i : ℕ) (u : Identifier) → identifier_at s.numbering k ≡ Some u → id_at s.numbering sp ≡ Some i → number planned.spaces (name_at s.numbering k) i ≡ number_of s.numbering k sp
   pub cursors : (sp i : ℕ) (t : Namespace) → namespace_at s.numbering sp ≡ Some t → id_at s.numbering sp ≡ Some i → cursor_of planned i ≡ t.cursor
@@ -46,19 +43,16 @@ module _ (s : Store) (l : IsLawful s) (planned : State) (p : IsPlanned s planned
       go None is e = absurd (cc)
       go (Some t) is e = (t, is)
 
-  names_are : in_use planned ≡ in_use (state_of s)
-  names_are = in_use-rows planned p.threads ∙ ap names_in_use p.rows
-
   -- a namespace gives what the model draws
   pub draw-key : (sp i : ℕ) → id_at s.numbering sp ≡ Some i → draw planned i ≡ draw_in s.numbering sp
   draw-key sp i e =
       let t = there sp i e in
       draw-is planned s.numbering i sp t.0 t.1 p.bound (p.cursors sp i t.0 t.1 e)
       (λ k u at.
-      let x = place_of (in_use planned) (name_at s.numbering k) (subst (IsIn (name_at s.numbering k)) (sym names_are) (used-in s l p.alone k u at)) in
+      let x = place_of (in_use planned) (name_at s.numbering k) (p.named.to k u at) in
       (x.0, x.1, ap (λ name. number planned.spaces name i) x.2 ∙ p.numbers k sp i u at e))
       (λ x lt.
-      let k = used-from s l (get_or (in_use planned) x root_name) (subst (IsIn (get_or (in_use planned) x root_name)) names_are (at_place (in_use planned) x lt)) in
+      let k = p.named.from (get_or (in_use planned) x root_name) (at_place (in_use planned) x lt) in
       (k.0, ap (λ name. number planned.spaces name i) k.3 ∙ p.numbers k.0 sp i k.1 k.2 e))
 
   -- and along a path

@@ -27,7 +27,7 @@ use Rattle.task_table.specs.View.{name_at, space_of, state_of}
 use Rattle.task_table.specs.Lawful.{IsLawful}
 use Rattle.task_table.specs.Whole.{IsWhole}
 use Rattle.task_table.proofs.Keys.{id_for, path-is, path-there, space_at-key, number-is_key}
-use Rattle.task_table.proofs.InUse.{used-in}
+use Rattle.task_table.proofs.InUse.{named-alone, used-in}
 use Rattle.fork_calls.proofs.Draws.{IsPlanned, find-draws, map-draws}
 
 -- the first number of a new namespace
@@ -74,9 +74,7 @@ module _ (s : Store) (l : IsLawful s) (w : IsWhole s) (stamp : ℕ) (below : IsB
   -- what the planned state has
   pub IsPlanned-new : IsPlanned s planned
   IsPlanned-new = record {
-    rows = refl;
-    alone = w.alone;
-    threads = refl;
+    named = named-alone s l w.alone planned refl refl;
     bound = refl;
     numbers = λ k sp i u e at.
         kept.number_old (state_of s) coherent stamp below p stands shallow (name_at s.numbering k) (used-in s l w.alone k u e) i

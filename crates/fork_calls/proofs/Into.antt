@@ -1,12 +1,11 @@
 -- A child in a namespace that stands.
-use Rattle.std.proofs.Common.{◌≡◌, ℕ, false, List, [], map, Some, None, Option, refl, sym, ap, ◌∙◌, option_map, unwrap_or}
-use Rattle.std.specs.Option.{option_map_or}
+use Rattle.std.proofs.Common.{◌≡◌, ℕ, false, List, map, Some, None, refl, sym, ap, ◌∙◌, option_map, unwrap_or}
 use Rattle.pid_types.specs.declared.plain.Life.TheVariants.{Live}
 use Rattle.pid_types.specs.declared.reply.Reply.TheVariants.{Forked}
 use Rattle.pid_types.specs.Names.{path_up, number_or_zero, root_number}
 use Rattle.pid_types.specs.Outcome.{unless_found}
 use Rattle.pid_types.specs.Fork.{drawn, child_of, forked, no_room, with_cursors}
-use Rattle.pid_numbers.specs.Numbering.{Namespace, namespace_at, id_at, path_at, draw_in, moved, new_identifier}
+use Rattle.pid_numbers.specs.Numbering.{namespace_at, id_at, path_at, draw_in, moved, new_identifier}
 use Rattle.task_tree.specs.declared.Task.{Task}
 use Rattle.task_tree.specs.Tree.{task_at}
 use Rattle.task_table.specs.Store.{Store, HasNoThreads, Begins}
@@ -16,7 +15,7 @@ use Rattle.task_table.specs.Whole.{HasParents}
 use Rattle.fork_calls.specs.Outcomes.{forked_into}
 use Rattle.task_table.proofs.Newborn.{KeepsNamespaces}
 use Rattle.fork_calls.proofs.Born.{state-born, reply-born}
-use Rattle.fork_calls.proofs.Cursors.{drew-own, spaces-moved}
+use Rattle.fork_calls.proofs.Cursors.{drew-own, id-kept, keeps-moved, spaces-moved}
 
 module _ (s s' : Store) (l : IsLawful s) (l' : IsLawful s') (alone : HasNoThreads s.threads) (kin : HasParents s) (key from : ℕ) (task caller : Task) (at : task_at s.tree from ≡ Some caller) (space t : ℕ) (numbers : List ℕ)
     (begun : Begins s s' key (Some from) task (new_identifier space numbers))
@@ -25,16 +24,10 @@ module _ (s s' : Store) (l : IsLawful s) (l' : IsLawful s') (alone : HasNoThread
     (made : task ≡ record { children_space = t; home = caller.home; executed = false; subreaper = false; life = Live })
     (room : no_room (state_of s) (row_of s from caller) t ≡ None) where
   keeps : KeepsNamespaces s.numbering s'.numbering
-  keeps q n e =
-      let z = now q ∙ ap (option_map (moved (path_at s.numbering space) numbers q)) e in
-      (ap (option_map (λ t. t.id)) z ∙ sym (ap (option_map (λ t. t.id)) e), ap (λ o. option_map_or (λ t. t.path) o []) z ∙ sym (ap (λ o. option_map_or (λ t. t.path) o []) e))
+  keeps = keeps-moved s.numbering s'.numbering (path_at s.numbering space) numbers now
 
   pub id-after : (q i : ℕ) → id_at s.numbering q ≡ Some i → id_at s'.numbering q ≡ Some i
-  id-after q i e = go (namespace_at s.numbering q) refl e
-    where
-      go : (o : Option Namespace) → namespace_at s.numbering q ≡ o → option_map (λ t. t.id) o ≡ Some i → id_at s'.numbering q ≡ Some i
-      go None is e = absurd (cc)
-      go (Some n) is e = (keeps q n is).0 ∙ ap (option_map (λ t. t.id)) is ∙ e
+  id-after = id-kept s.numbering s'.numbering keeps
 
   drew : numbers ≡ map (drawn (state_of s)) (path_up (spaces_of s.numbering) t)
   drew = planned ∙ drew-own s l alone space t id

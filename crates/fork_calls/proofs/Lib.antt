@@ -8,3 +8,4 @@ pub mod Inside
 pub mod Inner
 pub mod Places
 mod Foretold
+pub mod Cloned

@@ -1,5 +1,5 @@
 -- What a fork comes to.
-use Rattle.std.specs.Prelude.{◌≡◌, ◌≢◌, ℕ, Bool, not, ◌==◌, nat_le, Option, Some, None, MatchOption, if◌then◌else◌, Result, OnOk, IfOk}
+use Rattle.std.specs.Prelude.{◌≡◌, ◌≢◌, ℕ, Bool, not, ◌==◌, nat_le, Option, Some, None, MatchOption, if◌then◌else◌, Result, OnOk, OnErr, IfOk}
 use Rattle.std.specs.Option.{option_map_or}
 use Rattle.pid_types.specs.declared.plain.Row.{Row}
 use Rattle.pid_types.specs.declared.reply.Refusal.{Refusal}
@@ -34,6 +34,10 @@ child_below s key task stamp =
 -- the store is as the outcome leaves it, unless memory was wanting
 abbrev pub LeavesOutcome : {A E : Type 0} → Result A E → Store → Outcome → Type 0
 LeavesOutcome result s outcome = OnOk result (state_of s ≡ outcome.state)
+
+-- where memory was wanting the state is as it was
+abbrev pub StaysSame : {A E : Type 0} → Result A E → Store → Store → Type 0
+StaysSame result old new = OnErr result (state_of new ≡ state_of old)
 
 -- the reply is the outcome's, unless memory was wanting
 abbrev pub Replies : {E : Type 0} → Result ShortReply E → Outcome → Type 0

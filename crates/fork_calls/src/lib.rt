@@ -6,19 +6,20 @@
 #![tactic(auto)]
 
 ghost use Rattle.std.specs.Prelude.{◌≡◌, ℕ, Some, None, true, false, map, find, is_none, option_map, unwrap_or, IfOk};
-ghost use Rattle.std.specs.Prelude.{IfErr, OnOk, OnErr, IsSome, nat_le, ◌∷◌, ◌==◌, ◌<◌};
+ghost use Rattle.std.specs.Prelude.{IfErr, OnOk, IsSome, nat_le, ◌∷◌, ◌==◌, ◌<◌};
 ghost use Rattle.{
   pid_types.specs.{Bounds.{deepest_space}, Names.{level, number_or_zero, root_number}, declared.plain.Life.{Life}},
   pid_types.specs.{declared.reply.Reply.{Reply}, Controls.{passed_limit as passed_limit_of}},
   pid_types.specs.{Fork.{fork as fork_of, is_gone}, Sound.{IsBelow}, declared.reply.Refusal.{Refusal}},
   pid_types.specs.Short.{reply_of},
   fork_calls.specs.Outcomes.{child_there, child_below, space_refusal, IsKeyOf, nest_refusal as nest_refusal_of},
-  fork_calls.specs.Outcomes.{LeavesOutcome, Replies},
+  fork_calls.specs.Outcomes.{LeavesOutcome, Replies, StaysSame},
   pid_numbers.specs.Numbering.{id_at, path_at, draw_in, namespace_at, number_of, identifier_at, Identifier},
-  task_tree.specs.{declared.Task.{Task}, Tree.{task_at}},
+  task_tree.specs.declared.Task.{Task},
   task_table.specs.{View.{name_at, row_of, state_of}, Found.{IsCaller, IsFound}, Whole.{IsWhole, HasParents}},
 };
 
+pub mod threads;
 mod would;
 
 use arrayvec::ArrayVec;
@@ -86,7 +87,7 @@ fn number_seen(store: &Tasks, key: TaskKey, space: SpaceKey) -> Pid
 /// the outermost of them. Most callers are in the root.
 #[inline(always)]
 fn reply_for(store: &Tasks, key: TaskKey, own: SpaceKey, numbers: &[Pid]) -> ShortReply
-    requires there { IsSome (task_at store.now.tree key) }
+    requires there { IsSome (identifier_at store.now.numbering key) }
     requires numbers { (u : Identifier) → identifier_at store.now.numbering key ≡ Some u → u.numbers ≡ numbers.now }
     ensures { (i : ℕ) → id_at store.now.numbering own ≡ Some i
         → reply_of result ≡ Reply.Forked (number_or_zero (state_of store.now).spaces
@@ -118,7 +119,7 @@ fn fork_planned(
         (path_at store.old.numbering space) }
     ensures state { LeavesOutcome result store.new (child_there store.old found.now.key found.now.task) }
     ensures reply { Replies result (child_there store.old found.now.key found.now.task) }
-    ensures err { OnErr result (state_of store.new ≡ state_of store.old) }
+    ensures err { StaysSame result store.old store.new }
     ensures parents { HasParents store.new }
     ensures threads { store.new.threads ≡ store.old.threads }
 {
@@ -139,7 +140,7 @@ fn fork_into(store: &mut Tasks, found: &Found, space: SpaceKey) -> Result<ShortR
     requires id { id_at store.old.numbering space ≡ Some found.now.task.children_space }
     ensures state { LeavesOutcome result store.new (child_there store.old found.now.key found.now.task) }
     ensures reply { Replies result (child_there store.old found.now.key found.now.task) }
-    ensures err { OnErr result (state_of store.new ≡ state_of store.old) }
+    ensures err { StaysSame result store.old store.new }
     ensures parents { HasParents store.new }
     ensures threads { store.new.threads ≡ store.old.threads }
 {
@@ -159,7 +160,7 @@ fn fork_into_root(store: &mut Tasks, found: &Found) -> Result<ShortReply, AllocE
     requires id { id_at store.old.numbering 0 ≡ Some found.now.task.children_space }
     ensures state { LeavesOutcome result store.new (child_there store.old found.now.key found.now.task) }
     ensures reply { Replies result (child_there store.old found.now.key found.now.task) }
-    ensures err { OnErr result (state_of store.new ≡ state_of store.old) }
+    ensures err { StaysSame result store.old store.new }
     ensures parents { HasParents store.new }
     ensures threads { store.new.threads ≡ store.old.threads }
 {
@@ -190,7 +191,7 @@ fn fork_new_planned(
         (path_at store.old.numbering found.now.space) }
     ensures state { LeavesOutcome result store.new (child_below store.old found.now.key found.now.task stamp) }
     ensures reply { Replies result (child_below store.old found.now.key found.now.task stamp) }
-    ensures err { OnErr result (state_of store.new ≡ state_of store.old) }
+    ensures err { StaysSame result store.old store.new }
     ensures parents { HasParents store.new }
     ensures threads { store.new.threads ≡ store.old.threads }
 {
@@ -215,7 +216,7 @@ fn fork_inside(store: &mut Tasks, found: &Found, stamp: u64) -> Result<ShortRepl
     requires shallow { nat_le deepest_space (level (state_of store.old).spaces found.now.task.children_space) ≡ false }
     ensures state { LeavesOutcome result store.new (child_below store.old found.now.key found.now.task stamp) }
     ensures reply { Replies result (child_below store.old found.now.key found.now.task stamp) }
-    ensures err { OnErr result (state_of store.new ≡ state_of store.old) }
+    ensures err { StaysSame result store.old store.new }
     ensures parents { HasParents store.new }
     ensures threads { store.new.threads ≡ store.old.threads }
 {
@@ -309,7 +310,7 @@ pub fn fork(
     ensures state { OnOk result (state_of store.new ≡ (fork_of (state_of store.old) stamp caller new_space).state) }
     ensures reply { IfOk result (λ reply. reply_of reply
         ≡ (fork_of (state_of store.old) stamp caller new_space).reply) }
-    ensures err { OnErr result (state_of store.new ≡ state_of store.old) }
+    ensures err { StaysSame result store.old store.new }
     ensures parents { HasParents store.new }
     ensures threads { store.new.threads ≡ store.old.threads }
 {

@@ -57,7 +57,7 @@ module _ (s : Store) (l : IsLawful s) where
       let rows = length-collect (row_numbered s 0) 0 s.numbering.pid_max in
       let numbered = sum-ext s.numbering.pid_max (λ n. one_if (is_some (row_numbered s 0 (0 + n)))) (λ n. one_if (is_some (option_and_then (task_at s.tree) (key_numbered s.numbering 0 n))))
       (λ n. ap (λ m. one_if (is_some (row_numbered s 0 m))) (omega arith) ∙ tasked (key_numbered s.numbering 0 n)) in
-      let keys = sum-numbered s l (λ o. one_if (is_some o)) refl in
+      let keys = sum-numbered s l s.tree.tasks (named s l) (λ o. one_if (is_some o)) refl in
       let all : length (state_of s).rows ≡ sum_below (length s.tree.tasks) (λ k. one_if (is_some (task_at s.tree k))) = rows ∙ numbered ∙ keys in
       let most = sum_le (length s.tree.tasks) (λ k. one_if (is_some (task_at s.tree k))) (λ k. 1) (λ k. at_most_one (is_some (task_at s.tree k))) in
       let ones = sum-ones (length s.tree.tasks) in

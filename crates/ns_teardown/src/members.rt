@@ -5,7 +5,7 @@ ghost use Rattle.{
   pid_types.specs.Settings.{HasGoodPidMax},
   pid_numbers.specs.Numbering.{Identifier, identifier_at, number_of},
   task_tree.specs.Tree.{task_at, parent_of, lives},
-  task_table.specs.{Store.{IsLess}, Whole.{HasParents}},
+  task_table.specs.{Store.{HasNoThreads, IsLess}, Whole.{HasParents}},
   ns_teardown.specs.Fall.{slot_at, member_after_fall, slot_after_fall, parent_falls_at, KeepsHomes},
 };
 
@@ -33,6 +33,7 @@ fn parent_falls(store: &Tasks, space: SpaceKey, key: TaskKey) -> bool
 /// The member ends in its place, if it lives: the init by its exit, and another one is killed.
 fn finish_member(store: &mut Tasks, is_init: bool, status: u8, key: TaskKey, task: Task)
     requires there { task_at store.old.tree key ≡ Some task }
+    requires alone { HasNoThreads store.old.threads }
     requires live { is_init ≡ true → lives task ≡ true }
     requires visible { (p : ℕ) → parent_of store.old.tree key ≡ Some p
         → (u : Identifier) × (identifier_at store.old.numbering p ≡ Some u)
@@ -57,6 +58,7 @@ fn finish_member(store: &mut Tasks, is_init: bool, status: u8, key: TaskKey, tas
 /// The member goes with its parent, or ends in its place.
 fn end_member(store: &mut Tasks, space: SpaceKey, init: TaskKey, status: u8, key: TaskKey)
     requires there { IsSome (task_at store.old.tree key) }
+    requires alone { HasNoThreads store.old.threads }
     requires live { key ≡ init → option_map_or lives (task_at store.old.tree key) false ≡ true }
     requires visible { (p : ℕ) → parent_of store.old.tree key ≡ Some p → IsSome (task_at store.old.tree p)
         → (u : Identifier) × (identifier_at store.old.numbering p ≡ Some u)
@@ -82,6 +84,7 @@ fn end_member(store: &mut Tasks, space: SpaceKey, init: TaskKey, status: u8, key
 /// All members of the namespace end, in the order of their numbers there. Nothing is handed on: a member
 /// whose parent has gone already goes too.
 pub fn end_members(store: &mut Tasks, space: SpaceKey, init: TaskKey, status: u8)
+    requires alone { HasNoThreads store.old.threads }
     requires bound { HasGoodPidMax store.old.numbering.pid_max }
     requires live { option_map_or lives (task_at store.old.tree init) false ≡ true }
     requires parents { HasParents store.old }

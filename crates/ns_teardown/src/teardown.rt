@@ -16,7 +16,7 @@ ghost use Rattle.{
   pid_numbers.specs.Numbering.{Identifier, Numbering, identifier_at, number_of},
   pids_charge.specs.Charges.{Home, home_at, ChangesHome},
   task_tree.specs.Tree.{task_at, parent_of, lives, handed},
-  task_table.specs.{Store.{IsLess}, Lawful.{HasLaws}, Whole.{HasParents}, Found.{HasOwnSpace}},
+  task_table.specs.{Store.{HasNoThreads, IsLess}, Lawful.{HasLaws}, Whole.{HasParents}, Found.{HasOwnSpace}},
   ns_teardown.specs.{GoodTasks.{HasGoodTasks, IsNoInit, IsInnerInit}, Heirs.{IsHeir}},
   ns_teardown.specs.Fall.{slot_at, member_after_fall, slot_after_fall, FallsWithin, KeepsHomes},
 };
@@ -73,6 +73,7 @@ fn hand_children(store: &mut Tasks, key: TaskKey, space: SpaceKey)
 /// and it waits for its own as a zombie. A task without children needs no new parent.
 pub fn exit(store: &mut Tasks, found: &Found, status: u8)
     requires good { HasGoodTasks store.old }
+    requires alone { HasNoThreads store.old.threads }
     requires there { task_at store.old.tree found.now.key ≡ Some found.now.task }
     requires live { lives found.now.task ≡ true }
     requires own { HasOwnSpace store.old found.now }
@@ -101,6 +102,7 @@ pub fn exit(store: &mut Tasks, found: &Found, status: u8)
 /// It costs a search for each member and each level of its identifier, and a step for each namespace that is inside.
 pub fn fall(store: &mut Tasks, init: &Found, status: u8)
     requires good { HasGoodTasks store.old }
+    requires alone { HasNoThreads store.old.threads }
     requires bound { HasGoodPidMax store.old.numbering.pid_max }
     requires live { option_map_or lives (task_at store.old.tree init.now.key) false ≡ true }
     requires own { HasOwnSpace store.old init.now }

@@ -28,8 +28,8 @@ module _ (s : Store) (l : IsLawful s) (alone : HasNoThreads s.threads) (c : ℕ)
   here : (k : ℕ) (t : Task) → task_at s.tree k ≡ Some t → lives_here (row_of s k t) ≡ true → 0 < live_at s.charges c
   here k t e on =
       let h = and_parts (home_id s.charges t.home == home_id s.charges c) (lives t) on in
-      let same : t.home ≡ c = l.controls t.home c (live-home s l k t e h.1) standing (eqb-true (home_id s.charges t.home) (home_id s.charges c) h.0) in
-      let some = live_some s l.agree k t e h.1 in
+      let same : t.home ≡ c = l.controls t.home c (live-home s l k t e h.1 (alone.stays k)) standing (eqb-true (home_id s.charges t.home) (home_id s.charges c) h.0) in
+      let some = live_some s l.agree k t e h.1 (alone.stays k) in
       let z = ap (live_at s.charges) same in
       omega (arith, some, z)
 

@@ -1,5 +1,5 @@
 -- What each step of the making leaves as it was.
-use Rattle.std.proofs.Common.{◌≡◌, ◌≢◌, inl, inr, ℕ, false, List, [], ◌∷◌, Option, Some, None, is_some, refl, sym, ap, ◌∙◌, option_map, unwrap_or}
+use Rattle.std.proofs.Common.{◌≡◌, ◌≢◌, inl, inr, ℕ, false, List, [], ◌∷◌, Option, Some, None, is_some, refl, sym, ap, ◌∙◌, option_map, unwrap_or, subst}
 use Rattle.std.proofs.lemmas.Bool.{cases_eq}
 use Rattle.std.specs.Prelude.{slice_index_or, position, ◌==◌, option_and_then}
 use Rattle.std.specs.Option.{option_map_or, option_eq}
@@ -12,7 +12,7 @@ use Rattle.task_tree.specs.declared.Task.{Task}
 use Rattle.task_tree.specs.Tree.{task_at, parent_of}
 use Rattle.groups_sessions.specs.Membership.{Membership, membership_at, group_of, session_of}
 use Rattle.pids_charge.specs.Charges.{home_id}
-use Rattle.task_table.specs.Store.{Store, bare}
+use Rattle.task_table.specs.Store.{Store, bare, HasNoThreads}
 use Rattle.task_table.specs.View.{name_of, name_at, row_of, row_with, state_of}
 use Rattle.task_table.specs.Collect.{collect}
 use Rattle.task_table.specs.Lawful.{IsLawful}
@@ -128,6 +128,7 @@ ungrouped-moved s t m u = record {
   alone = λ k g e. u.alone k g (sym (ap (λ x. group_of x k) m.members) ∙ e);
   borne = λ k i e. ap (λ x. is_some (task_at x k)) m.tree ∙ u.borne k i (sym (ap (λ (ns : List (Option Identifier)). slice_index_or ns k None) m.names) ∙ e);
   standing = λ p. same_falls s.numbering t.numbering m.spaces p ∙ u.standing p;
+  single = subst HasNoThreads (sym m.threads) u.single;
 }
 
 -- so is one into which a task came by itself
@@ -151,6 +152,7 @@ ungrouped-come {s} {t} {key} c k u = record {
         ap is_some (c.begun.tasks i not) ∙ u.borne i old.0 old.1
   ];
   standing = λ p. same_falls s.numbering t.numbering k p ∙ u.standing p;
+  single = subst HasNoThreads (sym c.begun.threads) u.single;
 }
   where
     before : (v : Identifier) (o : Option Identifier) → option_map bare o ≡ Some (bare v) → (w : Identifier) × (o ≡ Some w)
@@ -247,8 +249,9 @@ grouping-both a b c k l = record { grouping = l.grouping; places = places-both a
 
 -- a store that was just made is ungrouped
 pub ungrouped-new : (s : Store) → IsLawful s → ((k : ℕ) → task_at s.tree k ≡ None) → s.members ≡ [] → ((i : ℕ) → identifier_at s.numbering i ≡ None)
-    → namespace_at s.numbering 0 ≡ Some (new_namespace 0 (0 ∷ [])) → ((p : ℕ) → p ≢ 0 → namespace_at s.numbering p ≡ None) → IsUngrouped s
-ungrouped-new s laws tasks members names root others = record {
+    → namespace_at s.numbering 0 ≡ Some (new_namespace 0 (0 ∷ [])) → ((p : ℕ) → p ≢ 0 → namespace_at s.numbering p ≡ None) → HasNoThreads s.threads
+    → IsUngrouped s
+ungrouped-new s laws tasks members names root others single = record {
   orphans = λ k. laws.absent k (tasks k);
   alone = λ k g e. absurd (let z : None ≡ Some g = sym (ap (λ (ms : List (Option Membership)). group_of ms k) members) ∙ e in cc);
   borne = λ k u e. absurd (let z : None ≡ Some u = sym (names k) ∙ e in cc);
@@ -256,6 +259,7 @@ ungrouped-new s laws tasks members names root others = record {
     | inl same ↦ ap (λ (o : Option Namespace). option_map_or (λ (n : Namespace). n.fallen) o false) (ap (namespace_at s.numbering) same ∙ root)
     | inr not ↦ ap (λ (o : Option Namespace). option_map_or (λ (n : Namespace). n.fallen) o false) (others p not)
   ];
+  single = single;
 }
 
 -- control groups have nothing to do with groups
@@ -265,6 +269,7 @@ ungrouped-charges s t rest u = record {
   alone = λ k g e. u.alone k g (sym (ap (λ (x : Store). group_of x.members k) rest) ∙ e);
   borne = λ k i e. ap (λ (x : Store). is_some (task_at x.tree k)) rest ∙ u.borne k i (sym (ap (λ (x : Store). identifier_at x.numbering k) rest) ∙ e);
   standing = λ p. ap (λ (x : Store). has_fallen_at x.numbering p) rest ∙ u.standing p;
+  single = subst HasNoThreads (sym (ap (λ (x : Store). x.threads) rest)) u.single;
 }
 
 -- nor has a namespace that came and stands
@@ -279,6 +284,7 @@ ungrouped-space s t key id path made others names rest u = record {
     | inl same ↦ ap (λ (o : Option Namespace). option_map_or (λ (n : Namespace). n.fallen) o false) (ap (namespace_at t.numbering) same ∙ made)
     | inr not ↦ ap (λ (o : Option Namespace). option_map_or (λ (n : Namespace). n.fallen) o false) (others p not) ∙ u.standing p
   ];
+  single = subst HasNoThreads (sym (ap (λ (x : Store). x.threads) rest)) u.single;
 }
 
 -- the places are the same where the namespaces and the control groups are

@@ -7,7 +7,7 @@ use Rattle.pid_types.specs.Sound.{IsSound}
 use Rattle.pid_types.specs.State.{State}
 use Rattle.pid_numbers.specs.Numbering.{Identifier, has_fallen_at, identifier_at, number_of}
 use Rattle.task_tree.specs.Tree.{parent_of}
-use Rattle.task_table.specs.Store.{Store}
+use Rattle.task_table.specs.Store.{Store, HasNoThreads}
 use Rattle.task_table.specs.View.{row_with}
 use Rattle.table_build.specs.Parts.{AreAllBorne, IsPart}
 use Rattle.table_build.specs.Recent.{AreBorne}
@@ -19,11 +19,12 @@ use Rattle.table_build.specs.Lines.{is_held}
 abbrev pub AllStand : Store → Type 0
 AllStand s = (p : ℕ) → has_fallen_at s.numbering p ≡ false
 
--- parents are tasks, each name is a task's, and each namespace stands
+-- parents are tasks, each name is a task's, each namespace stands, and each process is one thread
 pub record IsGrouping (s : Store) : Type 0 where
   pub kin : HasParents s
   pub borne : AreBorne s
   pub standing : AllStand s
+  pub single : HasNoThreads s.threads
 
 -- no parent is a placeholder
 abbrev pub HasRealParents : Store → Placed → Type 0

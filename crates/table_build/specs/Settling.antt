@@ -2,7 +2,7 @@
 use Rattle.std.specs.Prelude.{◌≡◌, ℕ, Some, None}
 use Rattle.pid_types.specs.declared.plain.Row.{Row}
 use Rattle.pid_types.specs.declared.plain.Life.TheVariants.{Live}
-use Rattle.task_table.specs.Store.{Store}
+use Rattle.task_table.specs.Store.{Store, HasNoThreads}
 use Rattle.task_table.specs.View.{row_with}
 use Rattle.task_table.specs.Whole.{HasParents}
 use Rattle.table_build.specs.declared.names.RecentName.{RecentName}
@@ -36,10 +36,11 @@ pub record KeepsSettling (old new : Store) (p : Placed) (last : RecentName) : Ty
   pub recent : IsRecent new last
   pub real : HasRealParents new p
 
--- parents are tasks of lines, and each namespace stands
+-- parents are tasks of lines, each namespace stands, and each process is one thread
 pub record IsSettled (s : Store) (p : Placed) : Type 0 where
   pub kin : HasParents s
   pub standing : AllStand s
+  pub single : HasNoThreads s.threads
   pub real : HasRealParents s p
 
 -- so they are still, and lines and places are the same

@@ -53,8 +53,6 @@ fn put_tasks(alloc: Global, store: &mut Tasks, saved: &Saved) -> Result<(), Buil
     let mut placed = begin_tasks(alloc, store, saved)?;
     enter_sessions(store, &mut placed, saved)?;
     settle_tasks(store, &placed, saved)?;
-    laws(store);
-    store.thread_laws();
     remove_placeholders(store, &placed);
     laws(store);
     Ok(())

@@ -9,11 +9,13 @@ use Rattle.pid_types.specs.declared.call.Kind.TheVariants.{Task as AsTask, Group
 use Rattle.pid_types.specs.Names.{beside}
 use Rattle.pid_numbers.specs.Numbering.{Numbering, Identifier, Namespace, identifier_at, namespace_at, path_at, number_in, number_of, new_identifier, uses, moved as cursor_moved}
 use Rattle.task_tree.specs.declared.Task.{Task}
-use Rattle.task_tree.specs.Tree.{TreeOfTasks, task_at, parent_of, rank_of, waits_for, lives}
+use Rattle.process_threads.specs.Threads.{left_at}
+use Rattle.task_tree.specs.Tree.{TreeOfTasks, task_at, parent_of, rank_of, waits_for, has_live, lives}
 use Rattle.pids_charge.specs.Charges.{Home, home_at, stands, all_tasks, ChangesHome}
 use Rattle.groups_sessions.specs.Membership.{Membership, membership_at}
-use Rattle.task_table.specs.Store.{Store, IsStore, IsSame, uses_at, one_if, is_kind, is_used_at, is_in_group, is_in_session, lives_in, waits_in, bare, bare_at, joins, use_of}
+use Rattle.task_table.specs.Store.{Store, IsStore, IsSame, uses_at, one_if, is_kind, is_used_at, is_in_group, is_in_session, lives_in, waits_in, left_in, bare, bare_at, joins, use_of}
 use Rattle.task_table.proofs.Less.{AreRanks, ranked_task}
+use Rattle.task_table.proofs.Marks.{stays, unmarked}
 use Rattle.task_table.proofs.Changes.{IsStore-changed}
 use Rattle.task_table.proofs.HomeCounts as homes
 
@@ -128,7 +130,9 @@ born s s' w b key from task vacant free task_room member_room live there drawn s
     IsStore-changed s s' w key (Some task) (joins s.members from key) (record {
       tasks = tasks;
       members = members;
-      threads = threads;
+      threads = ap (λ t. t.threads) threads;
+      left = λ p differs. ap (λ t. left_at t p) threads;
+      marks = λ e. live;
       task_room = task_room;
       member_room = member_room;
       both = joined-some s.members from key there;
@@ -150,11 +154,25 @@ born s s' w b key from task vacant free task_room member_room live there drawn s
           let z = ap (λ o. one_if (is_in_session i o)) free in
           let n = no_and (i == key) in
           omega (arith, x, y, z, n);
-      live = λ c. let z = ap (λ o. one_if (lives_in c o)) vacant in let h = (homes.one-came s.charges s'.charges task charged live up c).0 in omega (arith, z, h);
-      zombies = λ c. let z = ap (λ o. one_if (waits_in c o)) vacant in let h = (homes.one-came s.charges s'.charges task charged live up c).1 in omega (arith, z, h);
+      live = λ c.
+          let z = ap (λ o. one_if (lives_in c o)) vacant in
+          let h = (homes.one-came s.charges s'.charges task charged live up c).0 in
+          let m = alike c in
+          omega (arith, z, h, m);
+      zombies = λ c.
+          let z = ap (λ o. one_if (waits_in c o)) vacant in
+          let h = (homes.one-came s.charges s'.charges task charged live up c).1 in
+          let m = alike c in
+          omega (arith, z, h, m);
       all = let z = ap (λ o. one_if (is_some o)) vacant in omega (arith, z, all);
       ranks = ranks;
     })
+  where
+    -- a new process has no mark
+    alike : (c : ℕ) → one_if (left_at s'.threads key && lives_in c (Some task)) ≡ left_in s c key
+    alike c =
+        ap (λ t. one_if (left_at t key && lives_in c (Some task))) threads
+        ∙ unmarked (left_at s.threads key) (stays s w key (ap has_live vacant)) (lives_in c (Some task)) (lives_in c (task_at s.tree key))
 
 -- the uses where one identifier came, for a task
 abbrev pub OneMore : Numbering → Numbering → ℕ → Type 0

@@ -24,7 +24,7 @@ use Rattle.task_table.specs.Lawful.{HasLaws, IsLawful}
 use Rattle.task_table.proofs.LookUps.{named, group-named, session-named}
 use Rattle.task_table.proofs.Rows.{row-ext, rows-on}
 use Rattle.task_table.proofs.Sweeps.{spaces-swept}
-use Rattle.task_table.proofs.InUse.{member}
+use Rattle.task_table.proofs.InUse.{AreNamed, member, named-alone}
 
 -- nothing went
 pub IsLess-same : (b : Numbering) → HasLaws b → IsLess b b
@@ -58,14 +58,19 @@ IsLess-same b h = record {
         there None e = absurd (cc)
         there (Some t) e = refl
 
--- a state without threads whose rows are a store's, and whose namespaces those before some went, is swept to the store's
+-- a state whose names in use are a store's, and whose namespaces are those before some went, is swept to the store's namespaces
+pub swept-spaces : (m : Numbering) → HasLaws m → (s' : Store) → IsLawful s' → IsLess m s'.numbering → (state : State) → AreNamed s' state → state.spaces ≡ spaces_of m
+    → sweep state ≡ record state { spaces = spaces_of s'.numbering }
+unfolding sweep
+swept-spaces m h s' l' less state named spaces = let stay = spaces-swept m h s' l' less state named spaces in λ i. record state { spaces = stay i }
+
+-- one without threads is swept to the store's state
 pub swept : (m : Numbering) → HasLaws m → (s' : Store) → IsLawful s' → HasNoThreads s'.threads → IsLess m s'.numbering → (state : State) → state.rows ≡ (state_of s').rows → state.threads ≡ [] → state.left ≡ []
     → state.spaces ≡ spaces_of m
     → state.controls ≡ s'.charges.controls → state.pid_max ≡ s'.numbering.pid_max → sweep state ≡ state_of s'
-unfolding sweep
 swept m h s' l' alone less state rows threads left spaces controls bound =
-    let stay = spaces-swept m h s' l' alone less state rows threads spaces in
-    λ i. record { rows = rows i; threads = threads i; left = left i; spaces = stay i; controls = controls i; pid_max = bound i }
+    let stay = swept-spaces m h s' l' less state (named-alone s' l' alone state rows threads) spaces in
+    stay ∙ (λ i. record { rows = rows i; threads = threads i; left = left i; spaces = spaces_of s'.numbering; controls = controls i; pid_max = bound i })
 
 -- the names of who is left are as they were
 abbrev pub KeepsNames : Numbering → Numbering → Type 0

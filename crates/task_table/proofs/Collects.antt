@@ -3,9 +3,7 @@ use Rattle.std.proofs.Common.{◌≡◌, ◌≢◌, inl, inr, ℕ, zero, suc, �
 use Rattle.std.specs.Option.{option_map_or}
 use Rattle.std.proofs.lemmas.Bool.{cases_eq}
 use Rattle.std.proofs.lemmas.Map.Entries.{option_filter}
-use Rattle.pid_types.specs.declared.plain.Row.{Row}
-use Rattle.pid_types.specs.Names.{root_number}
-use Rattle.pid_types.specs.Fork.{insert_row}
+use Rattle.pid_types.specs.Fork.{insert_by}
 use Rattle.pid_types.specs.Membership.{IsIn}
 use Rattle.task_table.specs.Collect.{collect}
 
@@ -63,22 +61,22 @@ module _ {X : Type 0} where
       later None h = h
       later (Some y) h = inr h
 
-module _ (f : ℕ → Option Row) (keyed : (i : ℕ) (r : Row) → f i ≡ Some r → root_number r.name ≡ i) (new : Row) where
-  -- the new row stands before those with greater numbers
-  insert_first : (n len : ℕ) → root_number new.name < n → insert_row new (collect f n len) ≡ new ∷ collect f n len
+module _ {X : Type 0} (numbered : X → ℕ) (f : ℕ → Option X) (keyed : (i : ℕ) (r : X) → f i ≡ Some r → numbered r ≡ i) (new : X) where
+  -- the new element stands before those with greater numbers
+  insert_first : (n len : ℕ) → numbered new < n → insert_by numbered new (collect f n len) ≡ new ∷ collect f n len
   insert_first n zero below = refl
   insert_first n (suc len) below = go (f n) refl (collect f (n + 1) len) (insert_first (n + 1) len (omega (arith, below)))
     where
-      go : (o : Option Row) → f n ≡ o → (xs : List Row) → insert_row new xs ≡ new ∷ xs → insert_row new (option_map_or (λ x. x ∷ xs) o xs) ≡ new ∷ option_map_or (λ x. x ∷ xs) o xs
+      go : (o : Option X) → f n ≡ o → (xs : List X) → insert_by numbered new xs ≡ new ∷ xs → insert_by numbered new (option_map_or (λ x. x ∷ xs) o xs) ≡ new ∷ option_map_or (λ x. x ∷ xs) o xs
       go None e xs rest = rest
       go (Some r) e xs rest =
           let k = keyed n r e in
-          let less : nat_lt (root_number new.name) (root_number r.name) ≡ true = grind (arith, k, below) in
+          let less : nat_lt (numbered new) (numbered r) ≡ true = grind (arith, k, below) in
           rw less refl
 
-  -- one more row is inserted
-  pub collect-insert : (g : ℕ → Option Row) (n i len : ℕ) → root_number new.name ≡ n → f n ≡ None → g n ≡ Some new → ((j : ℕ) → j ≢ n → g j ≡ f j)
-      → i ≤ n → n < i + len → collect g i len ≡ insert_row new (collect f i len)
+  -- one more element is inserted
+  pub collect-insert : (g : ℕ → Option X) (n i len : ℕ) → numbered new ≡ n → f n ≡ None → g n ≡ Some new → ((j : ℕ) → j ≢ n → g j ≡ f j)
+      → i ≤ n → n < i + len → collect g i len ≡ insert_by numbered new (collect f i len)
   collect-insert g n i zero named free here others from below = absurd (omega (arith, from, below))
   collect-insert g n i (suc len) named free here others from below = elim (cases_eq i n) [
     | inl same ↦
@@ -91,9 +89,9 @@ module _ (f : ℕ → Option Row) (keyed : (i : ℕ) (r : Row) → f i ≡ Some 
         rw (others i differs, rest) (go (f i) refl (collect f (i + 1) len) (omega (arith, differs, from)))
   ]
     where
-      go : (o : Option Row) → f i ≡ o → (xs : List Row) → i < n → option_map_or (λ x. x ∷ insert_row new xs) o (insert_row new xs) ≡ insert_row new (option_map_or (λ x. x ∷ xs) o xs)
+      go : (o : Option X) → f i ≡ o → (xs : List X) → i < n → option_map_or (λ x. x ∷ insert_by numbered new xs) o (insert_by numbered new xs) ≡ insert_by numbered new (option_map_or (λ x. x ∷ xs) o xs)
       go None e xs less = refl
       go (Some r) e xs less =
           let k = keyed i r e in
-          let not : nat_lt (root_number new.name) (root_number r.name) ≡ false = grind (arith, k, less, named) in
+          let not : nat_lt (numbered new) (numbered r) ≡ false = grind (arith, k, less, named) in
           rw not refl

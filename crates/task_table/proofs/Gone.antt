@@ -1,5 +1,5 @@
 -- What is left in a store when a task without children is gone.
-use Rattle.std.proofs.Common.{◌≡◌, ◌≢◌, ◌⊎◌, inl, inr, ℕ, ◌+◌, ◌-◌, Bool, true, false, ◌||◌, nat_lt, get_or, Option, Some, None, is_some, if◌then◌else◌, refl, sym, ap, ◌∙◌, arith, option_map, option_and_then}
+use Rattle.std.proofs.Common.{◌≡◌, ◌≢◌, ◌⊎◌, inl, inr, ℕ, ◌+◌, ◌-◌, ◌<◌, Bool, true, false, ◌||◌, nat_lt, get_or, Option, Some, None, is_some, if◌then◌else◌, refl, sym, ap, ◌∙◌, arith, option_map, option_and_then}
 use Rattle.std.specs.Prelude.{slice_set}
 use Rattle.std.specs.Option.{option_map_or}
 use Rattle.std.proofs.lemmas.Bool.{cases_eq}
@@ -8,7 +8,7 @@ use Rattle.pids_charge.specs.Charges.{Home, home_at, live_at, zombies_at, kept, 
 use Rattle.task_tree.specs.declared.Task.{Task}
 use Rattle.task_tree.specs.Tree.{task_at, parent_of, lives}
 use Rattle.task_table.specs.Store.{Store, IsLess, home_without}
-use Rattle.task_table.proofs.Changes.{in_range, live_some, zombie_some}
+use Rattle.task_table.proofs.Changes.{in_range, task_some}
 use Rattle.task_table.specs.View.{row_of, row_with}
 use Rattle.task_table.specs.Lawful.{IsLawful}
 use Rattle.task_table.specs.Whole.{HasParents}
@@ -17,12 +17,13 @@ use Rattle.task_table.proofs.Changed.{row-left}
 
 -- where a task is home there is a control group's key
 home-there : (s : Store) → IsLawful s → (k : ℕ) (t : Task) → task_at s.tree k ≡ Some t → (h : Home) × (home_at s.charges t.home ≡ Some h)
-home-there s l k t at = go (home_at s.charges t.home) refl (lives t) refl
+home-there s l k t at = go (home_at s.charges t.home) refl (task_some s l.agree k t at)
   where
-    go : (o : Option Home) → home_at s.charges t.home ≡ o → (b : Bool) → lives t ≡ b → (h : Home) × (home_at s.charges t.home ≡ Some h)
-    go (Some h) e b is = (h, e)
-    go None e true is = absurd (let some = live_some s l.agree k t at is in let z : live_at s.charges t.home ≡ 0 = ap (λ o. option_map_or (λ h. h.live) o 0) e in omega (arith, some, z))
-    go None e false is = absurd (let some = zombie_some s l.agree k t at is in let z : zombies_at s.charges t.home ≡ 0 = ap (λ o. option_map_or (λ h. h.zombies) o 0) e in omega (arith, some, z))
+    go : (o : Option Home) → home_at s.charges t.home ≡ o → (0 < live_at s.charges t.home) ⊎ (0 < zombies_at s.charges t.home)
+        → (h : Home) × (home_at s.charges t.home ≡ Some h)
+    go (Some h) e either = (h, e)
+    go None e (inl some) = absurd (let z : live_at s.charges t.home ≡ 0 = ap (λ o. option_map_or (λ h. h.live) o 0) e in omega (arith, some, z))
+    go None e (inr some) = absurd (let z : zombies_at s.charges t.home ≡ 0 = ap (λ o. option_map_or (λ h. h.zombies) o 0) e in omega (arith, some, z))
 
 -- a task is gone
 pub record IsGone (s s' : Store) (k : ℕ) (t : Task) : Type 0 where

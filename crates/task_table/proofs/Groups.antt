@@ -8,12 +8,14 @@ use Rattle.std.proofs.lemmas.List.Sums.{count_by-le-length}
 use Rattle.pid_types.specs.declared.call.Kind.{Kind}
 use Rattle.pid_types.specs.declared.call.Kind.TheVariants.{Task as AsTask, Group, Session}
 use Rattle.pid_numbers.specs.Numbering.{Numbering}
+use Rattle.process_threads.specs.Threads.{left_at}
 use Rattle.task_tree.specs.Tree.{TreeOfTasks, task_at}
 use Rattle.task_tree.specs.declared.Task.{Task}
 use Rattle.groups_sessions.specs.Membership.{Membership, membership_at, group_of, session_of}
 use Rattle.pids_charge.specs.Charges.{live_at, zombies_at, all_tasks}
-use Rattle.task_table.specs.Store.{Store, IsStore, uses_at, one_if, is_kind, is_in_group, is_in_session, lives_in, waits_in}
+use Rattle.task_table.specs.Store.{Store, IsStore, uses_at, one_if, is_kind, is_in_group, is_in_session, lives_in, waits_in, left_in}
 use Rattle.task_table.proofs.Less.{AreRanks}
+use Rattle.task_table.proofs.Marks.{not-marked, unmarked}
 use Rattle.task_table.proofs.Changes.{count-set, in_range, IsStore-changed}
 
 pub flip : (m n : ℕ) → (m == n) ≡ (n == m)
@@ -69,6 +71,8 @@ rejoined s w key m n is b uses members changed ranks =
       tasks = sym (set-get_or s.tree.tasks key None);
       members = changed;
       threads = refl;
+      left = λ p differs. refl;
+      marks = w.marks key;
       task_room = in_range s.tree.tasks key (sym (w.members key) ∙ ap is_some is);
       member_room = in_range s.members key (ap is_some is);
       both = sym (sym (w.members key) ∙ ap is_some is);
@@ -120,16 +124,18 @@ UsesLeft b c key m = (k : Kind) (i : ℕ) → uses_at c k i + one_if ((i == key)
 
 -- a task is gone
 pub left : (s s' : Store) → IsStore s → (key : ℕ) (task : Task) (m : Membership) → task_at s.tree key ≡ Some task → membership_at s.members key ≡ Some m
-    → s'.tree.tasks ≡ slice_set s.tree.tasks key None → s'.members ≡ slice_set s.members key None → s'.threads ≡ s.threads
+    → s'.tree.tasks ≡ slice_set s.tree.tasks key None → s'.members ≡ slice_set s.members key None → s'.threads ≡ s.threads → left_at s.threads key ≡ false
     → UsesLeft s.numbering s'.numbering key m
     → ((c : ℕ) → live_at s'.charges c + one_if (lives_in c (Some task)) ≡ live_at s.charges c)
     → ((c : ℕ) → zombies_at s'.charges c + one_if (waits_in c (Some task)) ≡ zombies_at s.charges c)
     → all_tasks s'.charges + 1 ≡ all_tasks s.charges → AreRanks s'.numbering s'.tree → IsStore s'
-left s s' w key task m there is tasks members threads uses live zombies all ranks =
+left s s' w key task m there is tasks members threads stays uses live zombies all ranks =
     IsStore-changed s s' w key None None (record {
       tasks = tasks;
       members = members;
-      threads = threads;
+      threads = ap (λ t. t.threads) threads;
+      left = λ p differs. ap (λ t. left_at t p) threads;
+      marks = λ e. not-marked (left_at s.threads key) stays (sym (ap (λ t. left_at t key) threads) ∙ e);
       task_room = in_range s.tree.tasks key (ap is_some there);
       member_room = in_range s.members key (ap is_some is);
       both = refl;
@@ -155,11 +161,15 @@ left s s' w key task m there is tasks members threads uses live zombies all rank
           let z = one_of (i == m.session) ∙ ap one_if (flip i m.session) in
           let e = ap (λ o. one_if (is_in_session i o)) is in
           omega (arith, a, x, y, z, e);
-      live = λ c. let a = live c in let e = ap (λ o. one_if (lives_in c o)) there in omega (arith, a, e);
-      zombies = λ c. let a = zombies c in let e = ap (λ o. one_if (waits_in c o)) there in omega (arith, a, e);
+      live = λ c. let a = live c in let e = ap (λ o. one_if (lives_in c o)) there in let m = alike c in omega (arith, a, e, m);
+      zombies = λ c. let a = zombies c in let e = ap (λ o. one_if (waits_in c o)) there in let m = alike c in omega (arith, a, e, m);
       all = let e = ap (λ o. one_if (is_some o)) there in omega (arith, all, e);
       ranks = ranks;
     })
+  where
+    -- without a mark nobody counts among the marked, before and after
+    alike : (c : ℕ) → one_if (left_at s'.threads key && false) ≡ left_in s c key
+    alike c = ap (λ t. one_if (left_at t key && false)) threads ∙ unmarked (left_at s.threads key) stays false (lives_in c (task_at s.tree key))
 
 pub group_is : (members : List (Option Membership)) (key : ℕ) (m : Membership) → membership_at members key ≡ Some m → (g : ℕ) → group_of members key ≡ Some g → m.group ≡ g
 group_is members key m is g e = ap (λ o. option_map_or (λ (n : ℕ). n) o 0) (sym (ap (option_map (λ (m : Membership). m.group)) is) ∙ e)

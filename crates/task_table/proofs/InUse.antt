@@ -11,16 +11,18 @@ use Rattle.pid_types.specs.declared.plain.Name.{Name}
 use Rattle.pid_types.specs.declared.call.Kind.{Kind}
 use Rattle.pid_types.specs.declared.call.Kind.TheVariants.{Task as AsTask, Group, Session}
 use Rattle.pid_types.specs.Membership.{IsIn}
-use Rattle.pid_types.specs.State.{root_name}
-use Rattle.pid_types.specs.Names.{names_in_use}
+use Rattle.pid_types.specs.State.{State, root_name}
+use Rattle.pid_types.specs.Names.{in_use, names_in_use}
 use Rattle.model_laws.proofs.Names.{user_of_name, own_name_in_use, group_in_use, session_in_use}
 use Rattle.pid_numbers.specs.Numbering.{Identifier, identifier_at, uses, is_used_as, is_used}
+use Rattle.process_threads.specs.Threads.{left_at}
 use Rattle.task_tree.specs.declared.Task.{Task}
 use Rattle.task_tree.specs.Tree.{task_at, lives}
 use Rattle.groups_sessions.specs.Membership.{Membership, membership_at}
 use Rattle.task_table.specs.Store.{Store, HasNoThreads, uses_at, one_if, is_in_group, is_in_session, is_used_at}
 use Rattle.pids_charge.specs.Charges.{Home, home_at, stands, live_at, zombies_at}
-use Rattle.task_table.proofs.Changes.{live_some, zombie_some}
+use Rattle.task_table.proofs.Alone.{in_use-rows}
+use Rattle.task_table.proofs.Changes.{live_some, task_some}
 use Rattle.task_table.proofs.Groups.{group_used, session_used}
 use Rattle.task_table.proofs.Threaded.{used-as}
 use Rattle.task_table.specs.View.{name_at, row_of, state_of}
@@ -143,9 +145,9 @@ module _ (s : Store) (l : IsLawful s) where
           let u = session-named s l k m at in
           (m.session, u.0, u.1, counted Session m.session u.0 u.1 (session_used s l.agree k m at), ap (λ (x : Row). x.session) is ∙ ap (λ o. option_map_or (name_at s.numbering) (option_map (λ m. m.session) o) root_name) at)
 
-  -- and where no thread is beside a first one each identifier's name is in use
-  pub used-in : HasNoThreads s.threads → (i : ℕ) (v : Identifier) → identifier_at s.numbering i ≡ Some v → IsIn (name_at s.numbering i) (names_in_use (state_of s).rows)
-  used-in alone i v e = go (v.tasks == 0) refl (v.groups == 0) refl (v.sessions == 0) refl (l.used alone i v e)
+  -- and the name of an identifier that is used is in use
+  pub used-name : (i : ℕ) (v : Identifier) → identifier_at s.numbering i ≡ Some v → is_used v ≡ true → IsIn (name_at s.numbering i) (names_in_use (state_of s).rows)
+  used-name i v e = go (v.tasks == 0) refl (v.groups == 0) refl (v.sessions == 0) refl
     where
       by : (kind : Kind) → is_used_as kind (Some v) ≡ true → ((r : Row) → IsIn r (state_of s).rows → IsIn (name_by kind r) (names_in_use (state_of s).rows)) → IsIn (name_at s.numbering i) (names_in_use (state_of s).rows)
       by kind h in_use = let r = user kind i v e h in subst (λ (a : Name). IsIn a (names_in_use (state_of s).rows)) r.2 (in_use r.0 r.1)
@@ -157,6 +159,10 @@ module _ (s : Store) (l : IsLawful s) where
       go true is true bs false cs h = by Session (ap not cs) (session_in_use (state_of s).rows)
       go true is true bs true cs h = absurd (let z : false ≡ true = sym (ap (λ x. not (x && ((v.groups == 0) && (v.sessions == 0)))) is ∙ ap (λ x. not (true && (x && (v.sessions == 0)))) bs ∙ ap (λ x. not (true && (true && x))) cs) ∙ h in cc)
 
+  -- so where no thread is beside a first one each identifier's name is in use
+  pub used-in : HasNoThreads s.threads → (i : ℕ) (v : Identifier) → identifier_at s.numbering i ≡ Some v → IsIn (name_at s.numbering i) (names_in_use (state_of s).rows)
+  used-in alone i v e = used-name i v e (l.used alone i v e)
+
   -- a task's identifier is used
   pub task-used : (i : ℕ) → is_some (task_at s.tree i) ≡ true → is_used_at s.numbering i ≡ true
   task-used i there = used-as s.numbering AsTask i (let y = l.agree.tasks i in let z = ap one_if there in omega (arith, y, z))
@@ -165,9 +171,9 @@ module _ (s : Store) (l : IsLawful s) where
   pub used-here : HasNoThreads s.threads → (i : ℕ) → is_some (identifier_at s.numbering i) ≡ true → is_used_at s.numbering i ≡ true
   used-here alone i some = let v = held (identifier_at s.numbering i) some in ap (λ o. option_map_or is_used o false) v.1 ∙ l.used alone i v.0 v.1
 
-  -- the control group of a task is there, and that of a live task stands
+  -- the control group of a task is there, and that of a live task whose first thread is there stands
   pub homed : (k : ℕ) (t : Task) → task_at s.tree k ≡ Some t → (h : Home) × (home_at s.charges t.home ≡ Some h) × (0 < h.live + h.zombies)
-  homed k t e = go (lives t) refl
+  homed k t e = go (task_some s l.agree k t e)
     where
       some : (o : Option Home) (n : ℕ) → 0 < n → home_at s.charges t.home ≡ o → ((option_map_or (λ h. h.live) o 0 ≡ n) ⊎ (option_map_or (λ h. h.zombies) o 0 ≡ n)) → (h : Home) × (home_at s.charges t.home ≡ Some h) × (0 < h.live + h.zombies)
       some None n pos is (inl f) = absurd (omega (arith, pos, f))
@@ -175,13 +181,26 @@ module _ (s : Store) (l : IsLawful s) where
       some (Some h) n pos is (inl f) = (h, is, omega (arith, pos, f))
       some (Some h) n pos is (inr f) = (h, is, omega (arith, pos, f))
 
-      go : (b : Bool) → lives t ≡ b → (h : Home) × (home_at s.charges t.home ≡ Some h) × (0 < h.live + h.zombies)
-      go true live = some (home_at s.charges t.home) (live_at s.charges t.home) (live_some s l.agree k t e live) refl (inl refl)
-      go false dead = some (home_at s.charges t.home) (zombies_at s.charges t.home) (zombie_some s l.agree k t e dead) refl (inr refl)
+      go : (0 < live_at s.charges t.home) ⊎ (0 < zombies_at s.charges t.home) → (h : Home) × (home_at s.charges t.home ≡ Some h) × (0 < h.live + h.zombies)
+      go (inl more) = some (home_at s.charges t.home) (live_at s.charges t.home) more refl (inl refl)
+      go (inr more) = some (home_at s.charges t.home) (zombies_at s.charges t.home) more refl (inr refl)
 
-  pub live-home : (k : ℕ) (t : Task) → task_at s.tree k ≡ Some t → lives t ≡ true → stands s.charges t.home ≡ true
-  live-home k t e live = go (stands s.charges t.home) refl
+  pub live-home : (k : ℕ) (t : Task) → task_at s.tree k ≡ Some t → lives t ≡ true → left_at s.threads k ≡ false → stands s.charges t.home ≡ true
+  live-home k t e live stays = go (stands s.charges t.home) refl
     where
       go : (b : Bool) → stands s.charges t.home ≡ b → b ≡ true
       go true is = refl
-      go false is = absurd (let some = live_some s l.agree k t e live in let none = l.ended t.home is in omega (arith, some, none))
+      go false is = absurd (let some = live_some s l.agree k t e live stays in let none = l.ended t.home is in omega (arith, some, none))
+
+-- the names in use in the state are those of the store's identifiers
+pub record AreNamed (s : Store) (state : State) : Type 0 where
+  pub from : (a : Name) → IsIn a (in_use state) → (i : ℕ) × (v : Identifier) × (identifier_at s.numbering i ≡ Some v) × (a ≡ name_at s.numbering i)
+  pub to : (i : ℕ) (v : Identifier) → identifier_at s.numbering i ≡ Some v → IsIn (name_at s.numbering i) (in_use state)
+
+-- those of a state with the store's rows and no threads are, where it has none
+pub named-alone : (s : Store) → IsLawful s → HasNoThreads s.threads → (state : State) → state.rows ≡ (state_of s).rows → state.threads ≡ [] → AreNamed s state
+named-alone s l alone state rows threads =
+    let are = in_use-rows state threads ∙ ap names_in_use rows in record {
+      from = λ a i. used-from s l a (subst (IsIn a) are i);
+      to = λ i v e. subst (IsIn (name_at s.numbering i)) (sym are) (used-in s l alone i v e);
+    }

@@ -10,6 +10,7 @@ pub mod Around
 pub mod Sweeps
 pub mod Changed
 pub mod Counts
+pub mod Marks
 pub mod Begun
 pub mod Less
 pub mod Changes
@@ -19,9 +20,11 @@ pub mod Groups
 pub mod Rest
 pub mod Births
 pub mod Seated
+pub mod Drawn
 pub mod Newborn
 pub mod Threaded
 pub mod ThreadChanges
+pub mod Leaving
 pub mod Regrouped
 pub mod Gone
 pub mod Housed

@@ -1,41 +1,42 @@
 -- What a new task leaves as it was, and the identifier that it has.
-use Rattle.std.proofs.Common.{◌≡◌, ◌≢◌, inl, inr, ℕ, ◌+◌, ◌<◌, List, [], ◌∷◌, length, Option, Some, None, IsSome, refl, sym, ap, ◌∙◌, arith, option_map, unwrap_or}
-use Rattle.std.specs.Prelude.{reverse}
+use Rattle.std.proofs.Common.{◌≡◌, ◌≢◌, inl, inr, ℕ, ◌+◌, List, Option, Some, None, IsSome, refl, sym, ap, ◌∙◌, option_map}
 use Rattle.std.specs.Option.{option_map_or}
 use Rattle.std.proofs.lemmas.Bool.{cases_eq}
 use Rattle.pid_types.proofs.General.{held}
 use Rattle.pid_types.specs.declared.plain.Name.{Name}
 use Rattle.pid_types.specs.State.{root_name}
-use Rattle.pid_types.specs.Names.{beside}
-use Rattle.pid_numbers.specs.Numbering.{Numbering, Namespace, Identifier, namespace_at, id_at, identifier_at, number_in, number_of, path_at, new_identifier}
+use Rattle.pid_numbers.specs.Numbering.{Numbering, Identifier, identifier_at, number_of, new_identifier}
 use Rattle.task_tree.specs.declared.Task.{Task}
 use Rattle.task_tree.specs.Tree.{task_at, parent_of}
 use Rattle.groups_sessions.specs.Membership.{Membership, membership_at}
-use Rattle.pids_charge.specs.Charges.{Home, home_at, home_id}
+use Rattle.pids_charge.specs.Charges.{Charges, Home, home_at, home_id, ChangesHome}
 use Rattle.task_table.specs.Store.{Store, Begins, bare}
-use Rattle.task_table.specs.View.{name_of, name_at, row_of, row_with}
+use Rattle.task_table.specs.View.{name_at, row_of, row_with}
 use Rattle.task_table.specs.Lawful.{IsLawful}
 use Rattle.task_table.specs.Whole.{HasParents}
-use Rattle.task_table.proofs.Keys.{on_path}
+pub use Rattle.task_table.proofs.Drawn.{KeepsNamespaces, some_of, named_in}
+use Rattle.task_table.proofs.Drawn.{DrawsOne}
+use Rattle.task_table.proofs.Drawn as draws
 use Rattle.task_table.proofs.LookUps.{named, group-named, session-named}
 use Rattle.task_table.proofs.InUse.{member}
 use Rattle.task_table.proofs.Rows.{row-ext}
-
--- namespaces from before have the ids and the paths that they had
-abbrev pub KeepsNamespaces : Numbering → Numbering → Type 0
-KeepsNamespaces b c = (q : ℕ) (n : Namespace) → namespace_at b q ≡ Some n → (id_at c q ≡ id_at b q) × (path_at c q ≡ path_at b q)
-
-pub some_of : {X : Type 0} (x y : X) → ◌≡◌ {A = Option X} (Some x) (Some y) → x ≡ y
-some_of x y e = ap (λ o. option_map_or (λ z. z) o x) e
-
-abbrev pub named_in : ℕ → List ℕ → Name
-named_in i ns = record { space = i; numbers = record { items = reverse ns } }
 
 abbrev pub group_in : Numbering → Option Membership → Name
 group_in b o = option_map_or (name_at b) (option_map (λ m. m.group) o) root_name
 
 abbrev pub session_in : Numbering → Option Membership → Name
 session_in b o = option_map_or (name_at b) (option_map (λ m. m.session) o) root_name
+
+-- with one task more control groups have the ids that they had
+pub ids-kept : (old new : Charges) (home : ℕ) → ChangesHome old new home (option_map (λ (h : Home). record h { live = h.live + 1 }) (home_at old home)) → (c : ℕ) → home_id new c ≡ home_id old c
+ids-kept old new home change c = elim (cases_eq c home) [
+  | inl same ↦ ap (home_id new) same ∙ ap (λ o. option_map_or (λ h. h.id) o 0) change.here ∙ one (home_at old home) ∙ sym (ap (home_id old) same)
+  | inr differs ↦ ap (λ o. option_map_or (λ h. h.id) o 0) (change.others c differs)
+]
+  where
+    one : (o : Option Home) → option_map_or (λ h. h.id) (option_map (λ (h : Home). record h { live = h.live + 1 }) o) 0 ≡ option_map_or (λ h. h.id) o 0
+    one None = refl
+    one (Some h) = refl
 
 -- a task came, of which all is known that the lemmas below need
 pub record Comes (s s' : Store) (key : ℕ) (from : Option ℕ) (task : Task) (space : ℕ) (numbers : List ℕ) : Type 0 where
@@ -48,58 +49,17 @@ pub record Comes (s s' : Store) (key : ℕ) (from : Option ℕ) (task : Task) (s
 module _ {s s' : Store} {key : ℕ} {from : Option ℕ} {task : Task} {space : ℕ} {numbers : List ℕ} (comes : Comes s s' key from task space numbers) where
   open comes use {before as l, after as l', kin, begun, keeps}
 
-  home_there : (u : Identifier) (k : ℕ) → identifier_at s.numbering k ≡ Some u → (n : Namespace) × (namespace_at s.numbering u.space ≡ Some n)
-  home_there u k e = go (path_at s.numbering u.space) refl (l.numbering.full k u e)
-    where
-      go : (p : List ℕ) → path_at s.numbering u.space ≡ p → (0 < length u.numbers) × (length u.numbers ≡ length (path_at s.numbering u.space)) → (n : Namespace) × (namespace_at s.numbering u.space ≡ Some n)
-      go [] is f = absurd (let z : length u.numbers ≡ 0 = f.1 ∙ ap length is in let y = f.0 in omega (arith, z, y))
-      go (q ∷ qs) is f = on_path s.numbering l.numbering u.space q qs is
-
-  was_there : (k : ℕ) (u : Identifier) → identifier_at s.numbering k ≡ Some u → k ≢ key
-  was_there k u e same = let z : None ≡ Some u = sym begun.fresh.1 ∙ ap (identifier_at s.numbering) (sym same) ∙ e in cc
-
-  -- the identifiers from before
-  still : (k : ℕ) (u : Identifier) → identifier_at s.numbering k ≡ Some u → (v : Identifier) × (identifier_at s'.numbering k ≡ Some v) × (v.space ≡ u.space) × (v.numbers ≡ u.numbers)
-  still k u e = go (identifier_at s'.numbering k) refl (begun.names k (was_there k u e) ∙ ap (option_map bare) e)
-    where
-      go : (o : Option Identifier) → identifier_at s'.numbering k ≡ o → option_map bare o ≡ Some (bare u) → (v : Identifier) × (identifier_at s'.numbering k ≡ Some v) × (v.space ≡ u.space) × (v.numbers ≡ u.numbers)
-      go None is z = absurd (cc)
-      go (Some v) is z = let same = some_of (bare v) (bare u) z in (v, is, ap (λ (x : Identifier). x.space) same, ap (λ (x : Identifier). x.numbers) same)
+  drawn : DrawsOne s.numbering s'.numbering key
+  drawn = record { before = l.numbering; fresh = begun.fresh.1; names = begun.names; keeps = keeps }
 
   pub name-kept : (k : ℕ) (u : Identifier) → identifier_at s.numbering k ≡ Some u → name_at s'.numbering k ≡ name_at s.numbering k
-  name-kept k u e =
-      let v = still k u e in
-      let n = home_there u k e in
-      ap (λ o. option_map_or (name_of s'.numbering) o root_name) v.1
-      ∙ ap (λ q. named_in (unwrap_or (id_at s'.numbering q) 0) v.0.numbers) v.2
-      ∙ ap (λ o. named_in (unwrap_or o 0) v.0.numbers) (keeps u.space n.0 n.1).0
-      ∙ ap (named_in (unwrap_or (id_at s.numbering u.space) 0)) v.3
-      ∙ sym (ap (λ o. option_map_or (name_of s.numbering) o root_name) e)
+  name-kept = draws.name-kept drawn
 
   pub root_kept : (k : ℕ) → k ≢ key → number_of s'.numbering k 0 ≡ number_of s.numbering k 0
-  root_kept k differs = go (identifier_at s.numbering k) refl
-    where
-      gone : (o : Option Identifier) → option_map bare o ≡ None → o ≡ None
-      gone None e = refl
-      gone (Some v) e = absurd (cc)
-
-      go : (o : Option Identifier) → identifier_at s.numbering k ≡ o → number_of s'.numbering k 0 ≡ number_of s.numbering k 0
-      go None e = ap (number_in (path_at s'.numbering) 0) (gone (identifier_at s'.numbering k) (begun.names k differs ∙ ap (option_map bare) e)) ∙ sym (ap (number_in (path_at s.numbering) 0) e)
-      go (Some u) e =
-          let v = still k u e in
-          let n = home_there u k e in
-          ap (number_in (path_at s'.numbering) 0) v.1 ∙ ap (λ q. beside 0 (path_at s'.numbering q) v.0.numbers) v.2 ∙ ap (λ p. beside 0 p v.0.numbers) (keeps u.space n.0 n.1).1
-          ∙ ap (beside 0 (path_at s.numbering u.space)) v.3 ∙ sym (ap (number_in (path_at s.numbering) 0) e)
+  root_kept = draws.root_kept drawn
 
   pub home_kept : (c : ℕ) → home_id s'.charges c ≡ home_id s.charges c
-  home_kept c = elim (cases_eq c task.home) [
-    | inl same ↦ ap (home_id s'.charges) same ∙ ap (λ o. option_map_or (λ h. h.id) o 0) begun.home.here ∙ one (home_at s.charges task.home) ∙ sym (ap (home_id s.charges) same)
-    | inr differs ↦ ap (λ o. option_map_or (λ h. h.id) o 0) (begun.home.others c differs)
-  ]
-    where
-      one : (o : Option Home) → option_map_or (λ h. h.id) (option_map (λ (h : Home). record h { live = h.live + 1 }) o) 0 ≡ option_map_or (λ h. h.id) o 0
-      one None = refl
-      one (Some h) = refl
+  home_kept = ids-kept s.charges s'.charges task.home begun.home
 
   parent_name : (o : Option ℕ) → ((p : ℕ) → o ≡ Some p → IsSome (task_at s.tree p)) → option_map (name_at s'.numbering) o ≡ option_map (name_at s.numbering) o
   parent_name None h = refl

@@ -1,5 +1,5 @@
 -- The four parts agree after changes that touch no task: of control groups, of namespaces, of room.
-use Rattle.std.proofs.Common.{◌≡◌, ℕ, suc, ◌==◌, Bool, true, false, List, [], ◌∷◌, get_or, count_by, Result, Ok, Err, Option, Some, None, option_and_then, is_some, if◌then◌else◌, refl, sym, ap, ◌∙◌, arith}
+use Rattle.std.proofs.Common.{◌≡◌, ℕ, suc, ◌+◌, ◌==◌, Bool, true, false, List, [], ◌∷◌, get_or, count_by, Result, Ok, Err, Option, Some, None, option_and_then, is_some, if◌then◌else◌, refl, sym, ap, ◌∙◌, arith}
 use Rattle.std.specs.Prelude.{slice_index_or}
 use Rattle.std.proofs.lemmas.List.Sums.{sum_by-cons}
 use Rattle.std.specs.Option.{option_map_or}
@@ -7,13 +7,17 @@ use Rattle.pid_types.specs.declared.call.Kind.{Kind}
 use Rattle.pid_types.specs.declared.call.Kind.TheVariants.{Task as AsTask, Group, Session}
 use Rattle.pid_types.specs.Names.{beside}
 use Rattle.pid_numbers.specs.Numbering.{Numbering, Identifier, identifier_at, path_at, number_of, number_in, uses}
+use Rattle.process_threads.specs.Threads.{left_at}
+use Rattle.task_tree.specs.Tree.{TreeOfTasks, task_at, has_live}
 use Rattle.pids_charge.specs.Charges.{Charges, Home, home_at, live_at, zombies_at, all_tasks, home_id, is_occupied, kept, handed_on, remove_refusal}
 use Rattle.std.specs.Result.{result_err}
 use Rattle.std.specs.Prelude.{OnOk, OnErr}
 use Rattle.pid_types.specs.Controls.{parent_control}
 use Rattle.pid_types.specs.declared.reply.Refusal.{Refusal}
 use Rattle.pid_types.specs.declared.reply.Refusal.TheVariants.{ControlBusy, RootControl}
-use Rattle.task_table.specs.Store.{Store, IsStore, IsSame, uses_at, one_if, is_in_group, is_in_session, lives_in, waits_in, threads_homed, all_threads}
+use Rattle.task_table.specs.Store.{Store, IsStore, IsSame, uses_at, one_if, is_in_group, is_in_session, lives_in, waits_in, threads_homed, all_threads, left_homed}
+use Rattle.task_table.proofs.Marks as marks
+use Rattle.task_table.proofs.Less.{AreRanks}
 use Rattle.task_table.proofs.HomeCounts.{kept-live, kept-zombies}
 
 -- the control groups' tasks by key are as many
@@ -25,11 +29,32 @@ recharged s charges w live zombies all =
       groups = w.groups;
       sessions = w.sessions;
       members = w.members;
-      live = λ c. live c ∙ w.live c;
+      live = λ c. ap (λ n. n + left_homed s c) (live c) ∙ w.live c;
       zombies = λ c. zombies c ∙ w.zombies c;
       all = all ∙ w.all;
+      marks = w.marks;
       ranks = w.ranks;
     }
+
+-- the tasks are the same, and whose children they are is not
+pub rekinned : (s : Store) (tree : TreeOfTasks) → IsStore s → tree.tasks ≡ s.tree.tasks → AreRanks s.numbering tree → IsStore (record s { tree = tree })
+rekinned s tree w same ranks = record {
+  tasks = λ i. w.tasks i ∙ sym (ap (λ o. one_if (is_some o)) (at i));
+  groups = w.groups;
+  sessions = w.sessions;
+  members = λ k. w.members k ∙ sym (ap is_some (at k));
+  live = λ c. let a = w.live c in let b = ap (count_by (lives_in c)) same in let m = marked c in omega (arith, a, b, m);
+  zombies = λ c. let a = w.zombies c in let b = ap (count_by (waits_in c)) same in let m = marked c in omega (arith, a, b, m);
+  all = let a = w.all in let b = ap (count_by is_some) same in omega (arith, a, b);
+  marks = λ p e. ap has_live (at p) ∙ w.marks p e;
+  ranks = ranks;
+}
+  where
+    at : (k : ℕ) → task_at tree k ≡ task_at s.tree k
+    at k = ap (λ l. slice_index_or l k None) same
+
+    marked : (c : ℕ) → left_homed (record s { tree = tree }) c ≡ left_homed s c
+    marked = marks.same s (record s { tree = tree }) (λ k. refl) at
 
 -- a removal leaves at each key as many
 handed-live : (from to : ℕ) (o : Option Home) → option_map_or (λ h. h.live) (option_and_then (handed_on from to) o) 0 ≡ option_map_or (λ h. h.live) o 0
@@ -64,6 +89,7 @@ renumbered-where s b w names paths = record {
   live = w.live;
   zombies = w.zombies;
   all = w.all;
+  marks = w.marks;
   tasks = λ i. same AsTask i ∙ w.tasks i;
   groups = λ i. same Group i ∙ w.groups i;
   sessions = λ i. same Session i ∙ w.sessions i;
@@ -119,16 +145,26 @@ roomier s s' w same = record {
       let b = w.live c in
       let d = count-pointwise (lives_in c) refl s'.tree.tasks s.tree.tasks same.tasks in
       let e = ap (λ l. threads_homed l c) same.threads in
-      omega (arith, a, b, d, e);
-  zombies = λ c. ap (λ v. zombies_at v c) same.charges ∙ w.zombies c ∙ sym (count-pointwise (waits_in c) refl s'.tree.tasks s.tree.tasks same.tasks);
+      let m = marked c in
+      omega (arith, a, b, d, e, m);
+  zombies = λ c.
+      let a = ap (λ v. zombies_at v c) same.charges in
+      let b = w.zombies c in
+      let d = count-pointwise (waits_in c) refl s'.tree.tasks s.tree.tasks same.tasks in
+      let m = marked c in
+      omega (arith, a, b, d, m);
   all =
       let a = ap all_tasks same.charges in
       let b = w.all in
       let d = count-pointwise is_some refl s'.tree.tasks s.tree.tasks same.tasks in
       let e = ap all_threads same.threads in
       omega (arith, a, b, d, e);
+  marks = λ p e. ap has_live (same.tasks p) ∙ w.marks p (sym (ap (λ l. left_at l p) same.threads) ∙ e);
   ranks = λ k p r e u is. ap (λ b. number_of b k u.space) same.numbering ∙ w.ranks k p r (sym (same.ranks k) ∙ e) u (sym (ap (λ b. identifier_at b p) same.numbering) ∙ is);
 }
+  where
+    marked : (c : ℕ) → left_homed s' c ≡ left_homed s c
+    marked = marks.same s s' (λ k. ap (λ l. left_at l k) same.threads) same.tasks
 
 -- a removal that was refused changed nothing, and the other one handed the zombies over
 pub removed : (s : Store) (charges : Charges) → IsStore s → (c : ℕ) → {X : Type 0} → (result : Result X Refusal) → result_err result ≡ remove_refusal s.charges c

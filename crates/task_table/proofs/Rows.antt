@@ -110,7 +110,7 @@ rows-insert s s' l l' bound key t fresh unnamed at roots others =
     let u = named s' l' key t at in
     let root = root-number s' l' key u.0 u.1 in
     ap (collect (row_numbered s' 0) 0) bound
-    ∙ collect-insert (row_numbered s 0) (keyed s l) (row_of s' key t) (row_numbered s' 0) (root_number (name_at s'.numbering key)) 0 s.numbering.pid_max refl
+    ∙ collect-insert (λ (r : Row). root_number r.name) (row_numbered s 0) (keyed s l) (row_of s' key t) (row_numbered s' 0) (root_number (name_at s'.numbering key)) 0 s.numbering.pid_max refl
     (free (root_number (name_at s'.numbering key)) root (row_numbered s 0 (root_number (name_at s'.numbering key))) refl)
     (row-at s' l' key 0 (root_number (name_at s'.numbering key)) t at root)
     (λ n differs. same n (λ e. differs (let z : Some (root_number (name_at s'.numbering key)) ≡ Some n = sym root ∙ e in ap (λ o. option_map_or (λ m. m) o n) (sym z))))

@@ -1,22 +1,21 @@
 -- Identifiers that are left keep their names, and the model's sweep leaves the namespaces that are left.
-use Rattle.std.proofs.Common.{◌≡◌, inl, ℕ, zero, suc, ◌<◌, Bool, true, false, not, ◌==◌, ◌&&◌, List, [], ◌∷◌, length, map, filter, get_or, cond, drop, slice_get, Option, Some, None, is_some, if◌then◌else◌, refl, sym, ap, subst, ◌∙◌, arith, option_map, option_and_then, unwrap_or}
+use Rattle.std.proofs.Common.{◌≡◌, inl, ℕ, zero, suc, ◌<◌, Bool, true, false, not, ◌==◌, ◌&&◌, List, [], ◌∷◌, length, map, filter, get_or, cond, drop, slice_get, Option, Some, None, is_some, if◌then◌else◌, refl, sym, ap, ◌∙◌, arith, option_map, option_and_then, unwrap_or}
 use Rattle.std.specs.Prelude.{reverse, slice_index_or, filter_map}
 use Rattle.std.specs.Option.{option_map_or}
 use Rattle.std.specs.List.{AllByRecursion, cons_option}
 use Rattle.pid_types.specs.declared.plain.Name.{Name}
 use Rattle.pid_types.specs.Membership.{IsIn}
 use Rattle.pid_types.specs.State.{State, root_name}
-use Rattle.pid_types.specs.Names.{beside, in_use, names_in_use, number, taken}
+use Rattle.pid_types.specs.Names.{beside, in_use, number, taken}
 use Rattle.pid_types.specs.Outcome.{is_dead as is_dead_in}
 use Rattle.model_laws.proofs.Lists.{IsIn-filter_map, IsIn-from_filter_map}
 use Rattle.pid_numbers.specs.Numbering.{Numbering, Namespace, Identifier, namespace_at, id_at, identifier_at, number_in, path_at, taken_in, is_deserted, is_there}
-use Rattle.task_table.specs.Store.{Store, IsLess, HasNoThreads}
+use Rattle.task_table.specs.Store.{Store, IsLess}
 use Rattle.task_table.proofs.Less.{was, stays, some_taken}
-use Rattle.task_table.specs.View.{name_of, name_at, parent_id, space_of, spaces_of, state_of}
+use Rattle.task_table.specs.View.{name_of, name_at, parent_id, space_of, spaces_of}
 use Rattle.task_table.specs.Lawful.{HasLaws, IsLawful}
 use Rattle.task_table.proofs.Keys.{number-is_key}
-use Rattle.task_table.proofs.InUse.{used-from, used-in}
-use Rattle.task_table.proofs.Alone.{in_use-rows}
+use Rattle.task_table.proofs.InUse.{AreNamed}
 
 -- who is left has the name that it had
 pub name-less : (b c : Numbering) → HasLaws b → IsLess b c → (k : ℕ) (v : Identifier) → identifier_at c k ≡ Some v → name_at c k ≡ name_at b k
@@ -54,8 +53,8 @@ same_zero zero (suc b) f g = absurd (let h = g (omega arith) in omega (arith, h)
 same_zero (suc a) zero f g = absurd (let h = f (omega arith) in omega (arith, h))
 same_zero (suc a) (suc b) f g = (let x : (suc a == 0) ≡ false = grind (arith) in x) ∙ sym (let y : (suc b == 0) ≡ false = grind (arith) in y)
 
--- a state without threads whose names in use are those of the identifiers that are left, and whose namespaces are those before any went
-module _ (m : Numbering) (h : HasLaws m) (s' : Store) (l' : IsLawful s') (alone : HasNoThreads s'.threads) (less : IsLess m s'.numbering) (state : State) (rows : state.rows ≡ (state_of s').rows) (threads : state.threads ≡ []) (spaces : state.spaces ≡ spaces_of m) where
+-- a state whose names in use are those of the identifiers that are left, and whose namespaces are those before any went
+module _ (m : Numbering) (h : HasLaws m) (s' : Store) (l' : IsLawful s') (less : IsLess m s'.numbering) (state : State) (named : AreNamed s' state) (spaces : state.spaces ≡ spaces_of m) where
   abbrev c : Numbering
   c = s'.numbering
 
@@ -76,23 +75,20 @@ module _ (m : Numbering) (h : HasLaws m) (s' : Store) (l' : IsLawful s') (alone 
       go None is = absurd (let z : None ≡ Some n = sym (ap (number_in (path_at m) s) is) ∙ e in cc)
       go (Some v) is = (v, is)
 
-  names_are : in_use state ≡ in_use (state_of s')
-  names_are = in_use-rows state threads ∙ ap names_in_use rows
-
   taken_left : (s i : ℕ) → id_at m s ≡ Some i → (length (taken state i) == 0) ≡ (length (taken_in (record m { names = c.names }) s) == 0)
   unfolding taken taken_in
   taken_left s i at = same_zero (length (filter_map (λ name. number state.spaces name i) (in_use state))) (length (filter_map (number_in (path_at m) s) c.names))
       (λ some.
       let n = first_in (filter_map (λ name. number state.spaces name i) (in_use state)) some in
       let a = IsIn-from_filter_map (λ name. number state.spaces name i) n.0 (in_use state) n.1 in
-      let k = used-from s' l' a.0 (subst (IsIn a.0) names_are a.1) in
+      let k = named.from a.0 a.1 in
       some_taken (number_in (path_at m) s) None refl c.names k.0 n.0 (sym (number_left k.0 k.1 s i at k.2) ∙ ap (λ x. number state.spaces x i) (sym k.3) ∙ a.2))
       (λ some.
       let k = one_listed (number_in (path_at m) s) c.names some in
       let v = there_left s k.0 k.1 k.2 in
       in_some k.1 (filter_map (λ name. number state.spaces name i) (in_use state))
       (IsIn-filter_map (λ name. number state.spaces name i) (name_at c k.0) k.1 (in_use state)
-      (subst (IsIn (name_at c k.0)) (sym names_are) (used-in s' l' alone k.0 v.0 v.1))
+      (named.to k.0 v.0 v.1)
       (number_left k.0 v.0 s i at v.1 ∙ k.2)))
 
   -- what is dead in the model goes

@@ -14,7 +14,8 @@ use Rattle.process_threads.specs.declared.Thread.{Thread}
 use Rattle.process_threads.specs.Threads.{ThreadsByKey, thread_with, KeepsKeys}
 use Rattle.task_tree.specs.declared.Task.{Task}
 use Rattle.pids_charge.specs.Charges.{Charges, Home, home_at, live_at, zombies_at, all_tasks, stands, kept, after_move, ChangesHome}
-use Rattle.task_table.specs.Store.{Store, IsStore, IsThreaded, IsLess, uses_at, one_if, is_homed, bare, bare_at}
+use Rattle.task_table.specs.Store.{Store, IsStore, IsThreaded, IsLess, uses_at, one_if, is_homed, left_homed, bare, bare_at}
+use Rattle.task_table.proofs.Marks as marks
 use Rattle.task_table.proofs.Less.{AreRanks}
 use Rattle.task_table.proofs.Changes.{count-set}
 use Rattle.task_table.proofs.Groups.{one_of, none_of}
@@ -65,7 +66,8 @@ live_some s w key t there room =
     let e = count-set (is_homed t.home) s.threads.threads key None None room in
     let here : one_if (is_homed t.home (thread_with s.threads key)) ≡ 1 = ap (λ o. one_if (is_homed t.home o)) there ∙ ap one_if (same t.home) in
     let count = w.live t.home in
-    omega (arith, e, here, count)
+    let most = marks.most s t.home in
+    omega (arith, e, here, count, most)
   where
     same : (n : ℕ) → (n == n) ≡ true
     same n = grind arith
@@ -77,14 +79,22 @@ roomier s threads w keeps = record {
   groups = w.groups;
   sessions = w.sessions;
   members = w.members;
-  live = λ c. let a = w.live c in let b = count-pointwise (is_homed c) refl threads.threads s.threads.threads keeps.threads in omega (arith, a, b);
-  zombies = w.zombies;
+  live = λ c.
+      let a = w.live c in
+      let b = count-pointwise (is_homed c) refl threads.threads s.threads.threads keeps.threads in
+      let m = marked c in
+      omega (arith, a, b, m);
+  zombies = λ c. let a = w.zombies c in let m = marked c in omega (arith, a, m);
   all = let a = w.all in let b = count-pointwise is_some refl threads.threads s.threads.threads keeps.threads in omega (arith, a, b);
+  marks = λ p e. w.marks p (sym (keeps.left p) ∙ e);
   ranks = w.ranks;
 }
+  where
+    marked : (c : ℕ) → left_homed (record s { threads = threads }) c ≡ left_homed s c
+    marked = marks.same s (record s { threads = threads }) keeps.left (λ k. refl)
 
 pub roomier-threaded : (b : Numbering) (old new : ThreadsByKey) → IsThreaded b old → KeepsKeys old new → IsThreaded b new
-roomier-threaded b old new w keeps = record { held = λ i. w.held i ∙ sym (ap is_some (keeps.threads i)); stays = λ p. keeps.left p ∙ w.stays p }
+roomier-threaded b old new w keeps = record { held = λ i. w.held i ∙ sym (ap is_some (keeps.threads i)) }
 
 -- no thread is at a key without an identifier
 pub vacant : (b : Numbering) (old new : ThreadsByKey) → IsThreaded b old → KeepsKeys old new → (key : ℕ) → identifier_at b key ≡ None → thread_with new key ≡ None
@@ -92,11 +102,11 @@ vacant b old new w keeps key fresh = keeps.threads key ∙ nothing (thread_with 
 
 -- another thread, or none, is at one key
 pub changed : (s : Store) (b : Numbering) (charges : Charges) (threads : ThreadsByKey) → IsStore s → (key : ℕ) (t : Option Thread) → ((k : Kind) (i : ℕ) → uses_at b k i ≡ uses_at s.numbering k i)
-    → threads.threads ≡ slice_set s.threads.threads key t → key < length s.threads.threads
+    → threads.threads ≡ slice_set s.threads.threads key t → threads.left ≡ s.threads.left → key < length s.threads.threads
     → ((c : ℕ) → live_at charges c + one_if (is_homed c (thread_with s.threads key)) ≡ live_at s.charges c + one_if (is_homed c t)) → ((c : ℕ) → zombies_at charges c ≡ zombies_at s.charges c)
     → all_tasks charges + one_if (is_some (thread_with s.threads key)) ≡ all_tasks s.charges + one_if (is_some t)
     → AreRanks b s.tree → IsStore (record s { numbering = b; charges = charges; threads = threads })
-changed s b charges threads w key t uses set room live zombies all ranks = record {
+changed s b charges threads w key t uses set left room live zombies all ranks = record {
   tasks = λ i. uses AsTask i ∙ w.tasks i;
   groups = λ i. uses Group i ∙ w.groups i;
   sessions = λ i. uses Session i ∙ w.sessions i;
@@ -106,20 +116,29 @@ changed s b charges threads w key t uses set room live zombies all ranks = recor
       let e = count-set (is_homed c) s.threads.threads key t None room in
       let f = ap (count_by (is_homed c)) set in
       let d = live c in
-      omega (arith, a, e, f, d);
-  zombies = λ c. zombies c ∙ w.zombies c;
+      let m = marked c in
+      omega (arith, a, e, f, d, m);
+  zombies = λ c. let a = w.zombies c in let d = zombies c in let m = marked c in omega (arith, a, d, m);
   all =
       let a = w.all in
       let e = count-set is_some s.threads.threads key t None room in
       let f = ap (count_by is_some) set in
       omega (arith, a, e, f, all);
+  marks = λ p e. w.marks p (ap (λ l. slice_index_or l p false) (sym left) ∙ e);
   ranks = ranks;
 }
+  where
+    new : Store
+    new = record s { numbering = b; charges = charges; threads = threads }
+
+    marked : (c : ℕ) → left_homed new c ≡ left_homed s c
+    marked = marks.same s new (λ k. ap (λ l. slice_index_or l k false) left) (λ k. refl)
 
 -- the identifiers of threads are those at whose keys threads are
-pub changed-threaded : (b c : Numbering) (old new : ThreadsByKey) → IsThreaded b old → (key : ℕ) (t : Option Thread) → new.threads ≡ slice_set old.threads key t → new.left ≡ old.left → key < length old.threads
-    → ((i : ℕ) → i ≢ key → identifier_at c i ≡ identifier_at b i) → is_thread (identifier_at c key) ≡ is_some t → IsThreaded c new
-changed-threaded b c old new w key t set left room others here = record { held = λ i. held i (cases_eq i key); stays = λ p. ap (λ l. slice_index_or l p false) left ∙ w.stays p }
+pub changed-threaded : (b c : Numbering) (old new : ThreadsByKey) → IsThreaded b old → (key : ℕ) (t : Option Thread)
+    → new.threads ≡ slice_set old.threads key t → key < length old.threads → ((i : ℕ) → i ≢ key → identifier_at c i ≡ identifier_at b i)
+    → is_thread (identifier_at c key) ≡ is_some t → IsThreaded c new
+changed-threaded b c old new w key t set room others here = record { held = λ i. held i (cases_eq i key) }
   where
     held : (i : ℕ) → (i ≡ key) ⊎ (i ≢ key) → is_thread (identifier_at c i) ≡ is_some (thread_with new i)
     held i (inl same) =

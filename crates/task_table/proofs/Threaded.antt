@@ -4,19 +4,17 @@ use Rattle.std.proofs.Common.{◌≡◌, ◌≢◌, ◌⊎◌, inl, inr, ℕ, �
 use Rattle.std.specs.Option.{option_map_or}
 use Rattle.std.specs.Prelude.{slice_index_or}
 use Rattle.std.proofs.lemmas.Bool.{cases_eq}
-use Rattle.pid_types.proofs.General.{nothing}
 use Rattle.pid_types.specs.declared.call.Kind.{Kind}
 use Rattle.pid_types.specs.declared.call.Kind.TheVariants.{Task as AsTask, Group, Session}
 use Rattle.pid_numbers.specs.Numbering.{Numbering, Identifier, identifier_at, is_used, is_thread, uses, more, less, left_of}
-use Rattle.process_threads.specs.Threads.{ThreadsByKey, thread_with}
-use Rattle.task_tree.specs.Tree.{task_at}
+use Rattle.process_threads.specs.Threads.{ThreadsByKey}
 use Rattle.process_threads.specs.declared.Thread.{Thread}
 use Rattle.task_table.proofs.Rest.{count-pointwise}
-use Rattle.task_table.specs.Store.{Store, IsStore, IsThreaded, HasNoThreads, AreUsed, KeepsThreads, is_used_at, one_if, uses_at}
+use Rattle.task_table.specs.Store.{IsThreaded, HasNoThreads, AreUsed, KeepsThreads, is_used_at, uses_at}
 
 -- the threads are as they were
 pub still : (b c : Numbering) (threads : ThreadsByKey) → IsThreaded b threads → KeepsThreads b c → IsThreaded c threads
-still b c threads w keeps = record { held = λ i. keeps i ∙ w.held i; stays = w.stays }
+still b c threads w keeps = record { held = λ i. keeps i ∙ w.held i }
 
 -- the same identifiers are the same threads'
 pub same : (b c : Numbering) → c.names ≡ b.names → KeepsThreads b c
@@ -43,11 +41,8 @@ pub none : (threads : ThreadsByKey) → threads.threads ≡ [] → threads.left 
 none threads some left = record { none = λ k. ap (λ l. slice_index_or l k None) some; stays = λ p. ap (λ l. slice_index_or l p false) left }
 
 -- no thread where there is no identifier
-pub begun : (b : Numbering) (threads : ThreadsByKey) → ((i : ℕ) → identifier_at b i ≡ None) → threads.threads ≡ [] → threads.left ≡ [] → IsThreaded b threads
-begun b threads names none left = record {
-  held = λ i. ap is_thread (names i) ∙ sym (ap (λ l. is_some (slice_index_or l i None)) none);
-  stays = λ p. ap (λ l. slice_index_or l p false) left;
-}
+pub begun : (b : Numbering) (threads : ThreadsByKey) → ((i : ℕ) → identifier_at b i ≡ None) → threads.threads ≡ [] → IsThreaded b threads
+begun b threads names none = record { held = λ i. ap is_thread (names i) ∙ sym (ap (λ l. is_some (slice_index_or l i None)) none) }
 
 and_false : (b : Bool) → (b && false) ≡ false
 and_false true = refl
@@ -152,14 +147,3 @@ used-beside b c key fresh others i used = go (cases_eq i key)
     go : (i ≡ key) ⊎ (i ≢ key) → is_used_at c i ≡ true
     go (inl same) = absurd (let z : false ≡ true = sym (ap (λ o. option_map_or is_used o false) (ap (identifier_at b) same ∙ fresh)) ∙ used in cc)
     go (inr differs) = ap (λ o. option_map_or is_used o false) (others i differs) ∙ used
-
--- where each identifier is a task's no thread is beside a first one
-pub alone-borne : (s : Store) → IsStore s → IsThreaded s.numbering s.threads → ((k : ℕ) (u : Identifier) → identifier_at s.numbering k ≡ Some u → is_some (task_at s.tree k) ≡ true)
-    → HasNoThreads s.threads
-alone-borne s w t borne = record { none = λ k. nothing (thread_with s.threads k) (sym (t.held k) ∙ no-thread k (identifier_at s.numbering k) refl); stays = t.stays }
-  where
-    no-thread : (k : ℕ) (o : Option Identifier) → identifier_at s.numbering k ≡ o → is_thread (identifier_at s.numbering k) ≡ false
-    no-thread k None e = ap is_thread e
-    no-thread k (Some u) e =
-        let some : 0 < uses_at s.numbering AsTask k = (let y = w.tasks k in let z = ap one_if (borne k u e) in omega (arith, y, z)) in
-        ap is_thread e ∙ ap not (sym (ap (λ o. option_map_or is_used o false) e) ∙ used-as s.numbering AsTask k some)

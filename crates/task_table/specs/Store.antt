@@ -1,15 +1,16 @@
 -- What a contract sees of `Tasks`: five parts by key. A task has the key of its identifier.
-use Rattle.std.specs.Prelude.{◌≡◌, ◌≢◌, ℕ, ◌+◌, ◌-◌, ◌==◌, ◌&&◌, not, Bool, true, false, List, count_by, Option, Some, None, IsSome, option_map, option_and_then, is_none, is_some, unwrap_or, find, map, if◌then◌else◌}
+use Rattle.std.specs.Prelude.{◌≡◌, ◌≢◌, ℕ, ◌+◌, ◌-◌, ◌==◌, ◌&&◌, not, Bool, true, false, List, count_by, length, Option, Some, None, IsSome, option_map, option_and_then, is_none, is_some, unwrap_or, find, map, if◌then◌else◌}
 use Rattle.std.specs.Option.{option_map_or}
 use Rattle.pid_types.specs.declared.call.Kind.{Kind}
 use Rattle.pid_types.specs.declared.call.Kind.TheVariants.{Task as AsTask, Group, Session}
 use Rattle.pid_numbers.specs.Numbering.{Numbering, Identifier, identifier_at, namespace_at, path_at, draw_in, is_there, is_thread, is_used, moved, number_of, uses, swept_at}
 use Rattle.std.specs.List.{filter}
 use Rattle.task_tree.specs.declared.Task.{Task}
-use Rattle.task_tree.specs.Tree.{TreeOfTasks, task_at, parent_of, rank_of, lives}
+use Rattle.task_tree.specs.Tree.{TreeOfTasks, task_at, parent_of, rank_of, has_live, lives}
 use Rattle.groups_sessions.specs.Membership.{Membership, membership_at}
 use Rattle.process_threads.specs.declared.Thread.{Thread}
 use Rattle.process_threads.specs.Threads.{ThreadsByKey, thread_with, left_at, KeepsKeys}
+use Rattle.pids_charge.specs.Sums.{sum_below}
 use Rattle.pids_charge.specs.Charges.{Charges, Home, home_at, after_move, kept, ChangesHome, live_at, zombies_at, all_tasks}
 
 -- the identifiers and namespaces, the tree of tasks, their groups and sessions, the control groups, and the threads beside first ones
@@ -60,6 +61,14 @@ threads_homed threads c = count_by (is_homed c) threads.threads
 abbrev pub all_threads : ThreadsByKey → ℕ
 all_threads threads = count_by is_some threads.threads
 
+-- 1 where the task with the key lives, has that home, and its first thread has left
+abbrev pub left_in : Store → ℕ → ℕ → ℕ
+left_in s c k = one_if (left_at s.threads k && lives_in c (task_at s.tree k))
+
+-- how many live tasks whose first thread has left have the control group's key as their home
+abbrev pub left_homed : Store → ℕ → ℕ
+left_homed s c = sum_below (length s.tree.tasks) (left_in s c)
+
 -- the home with one such task less
 abbrev pub home_without : Task → Home → Home
 home_without t h = if lives t then record h { live = h.live - 1 } else record h { zombies = h.zombies - 1 }
@@ -71,20 +80,22 @@ pub record IsStore (s : Store) : Type 0 where
   pub groups : (i : ℕ) → uses_at s.numbering Group i ≡ count_by (is_in_group i) s.members
   pub sessions : (i : ℕ) → uses_at s.numbering Session i ≡ count_by (is_in_session i) s.members
   pub members : (k : ℕ) → is_some (membership_at s.members k) ≡ is_some (task_at s.tree k)
-  -- a control group's tasks are those whose home it is: live processes by their first threads, other threads, and zombies
-  pub live : (c : ℕ) → live_at s.charges c ≡ count_by (lives_in c) s.tree.tasks + threads_homed s.threads c
-  pub zombies : (c : ℕ) → zombies_at s.charges c ≡ count_by (waits_in c) s.tree.tasks
+  -- a control group's tasks are those whose home it is: live processes by their first threads, other threads, and zombies. A live
+  -- process whose first thread has left is charged as a zombie is
+  pub live : (c : ℕ) → live_at s.charges c + left_homed s c ≡ count_by (lives_in c) s.tree.tasks + threads_homed s.threads c
+  pub zombies : (c : ℕ) → zombies_at s.charges c ≡ count_by (waits_in c) s.tree.tasks + left_homed s c
   pub all : all_tasks s.charges ≡ count_by is_some s.tree.tasks + all_threads s.threads
+  -- only of a live process is it said that its first thread has left
+  pub marks : (p : ℕ) → left_at s.threads p ≡ true → has_live (task_at s.tree p) ≡ true
   -- a child that has ended waits by its number in its parent's namespace
   pub ranks : (k p r : ℕ) → rank_of s.tree k ≡ Some (p, r) → (u : Identifier) → identifier_at s.numbering p ≡ Some u
       → number_of s.numbering k u.space ≡ Some r
 
--- an identifier without a use is a thread's. No first thread has left yet
+-- an identifier without a use is a thread's
 pub record IsThreaded (b : Numbering) (threads : ThreadsByKey) : Type 0 where
   pub held : (i : ℕ) → is_thread (identifier_at b i) ≡ is_some (thread_with threads i)
-  pub stays : (p : ℕ) → left_at threads p ≡ false
 
--- each process is one thread, its first
+-- each process is one thread, its first, which has not left
 pub record HasNoThreads (threads : ThreadsByKey) : Type 0 where
   pub none : (k : ℕ) → thread_with threads k ≡ None
   pub stays : (p : ℕ) → left_at threads p ≡ false
@@ -111,6 +122,11 @@ pub record AreNextNumbers (b : Numbering) (space : ℕ) (numbers : List ℕ) : T
   pub all : find (λ s. is_none (draw_in b s)) (path_at b space) ≡ None
   pub planned : numbers ≡ map (λ s. unwrap_or (draw_in b s) 0) (path_at b space)
 
+-- a live task's charge is an ended one's from now on
+abbrev pub EndsCharge : Charges → Charges → ℕ → Type 0
+EndsCharge old new c =
+    ChangesHome old new c (option_map (λ (h : Home). record h { live = h.live - 1; zombies = h.zombies + 1 }) (home_at old c))
+
 -- a live task's charge is gone
 pub record Uncharges (old new : Charges) (c : ℕ) : Type 0 where
   pub home : ChangesHome old new c (option_and_then (λ (h : Home). kept (record h { live = h.live - 1 })) (home_at old c))
@@ -120,6 +136,19 @@ pub record Uncharges (old new : Charges) (c : ℕ) : Type 0 where
 pub record MovesCharge (old new : Charges) (from to : ℕ) : Type 0 where
   pub controls : new.controls ≡ old.controls
   pub homes : (k : ℕ) → home_at new k ≡ option_map (after_move from to k) (home_at old k)
+
+-- a home to which a live task comes where its key is the one
+abbrev pub with_live : ℕ → ℕ → Home → Home
+with_live to k h = record h { live = h.live + one_if (k == to) }
+
+-- what is left at a key where a process that was charged as a zombie in one home is charged as a live one in another
+abbrev pub after_return : ℕ → ℕ → ℕ → Home → Option Home
+after_return from to k h = if k == from then kept (record (with_live to k h) { zombies = h.zombies - 1 }) else Some (with_live to k h)
+
+-- a zombie's charge in one home became a live task's in another
+pub record ReturnsCharge (old new : Charges) (from to : ℕ) : Type 0 where
+  pub controls : new.controls ≡ old.controls
+  pub homes : (k : ℕ) → home_at new k ≡ option_and_then (after_return from to k) (home_at old k)
 
 -- the identifiers of threads are those that were
 abbrev pub KeepsThreads : Numbering → Numbering → Type 0
@@ -200,7 +229,13 @@ pub record IsSameWithRoom (old new : Store) : Type 0 where
   pub same : new ≡ record old { threads = new.threads }
   pub threads : KeepsKeys old.threads new.threads
 
--- nothing but the part that is named has changed
+-- the parent of the task with the key, if it has one, sees it in its own namespace
+abbrev pub IsVisibleToParent : Store → ℕ → Type 0
+IsVisibleToParent s key =
+    (p : ℕ) → parent_of s.tree key ≡ Some p
+    → (u : Identifier) × (identifier_at s.numbering p ≡ Some u) × IsSome (number_of s.numbering key u.space)
+
+-- nothing but the parts that are named has changed
 abbrev pub ChangesNumbering : Store → Store → Type 0
 ChangesNumbering old new = new ≡ record old { numbering = new.numbering }
 
@@ -209,3 +244,6 @@ ChangesCharges old new = new ≡ record old { charges = new.charges }
 
 abbrev pub ChangesTree : Store → Store → Type 0
 ChangesTree old new = new ≡ record old { tree = new.tree }
+
+abbrev pub ChangesThreads : Store → Store → Type 0
+ChangesThreads old new = new ≡ record old { charges = new.charges; threads = new.threads }

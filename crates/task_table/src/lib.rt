@@ -18,10 +18,11 @@ ghost use Rattle.{
   pid_numbers.specs.Numbering.{namespace_at, identifier_at, number_of, path_at, has_fallen_at, HasOwnTask},
   pid_numbers.specs.Numbering.{fallen_within, draw_in, moved as cursor_moved, new_namespace, new_identifier},
   pid_numbers.specs.{Numbering.{Identifier, cursor_put}, Restore.{MayFall, is_flagged, fallen_if}},
+  process_threads.specs.Threads.{left_at},
   task_tree.specs.Tree.{task_at, parent_of, lives, handed},
   groups_sessions.specs.Membership.{Membership, membership_at, group_of, session_of, AreInSession, AreOthersInSession},
   task_table.specs.Store.{IsStore, IsThreaded, HasNoThreads, IsLess, IsSame, Begins, home_without, ChangesNumbering},
-  task_table.specs.Store.{ChangesCharges, ChangesTree, IsUsedAt},
+  task_table.specs.Store.{ChangesCharges, ChangesTree, EndsCharge, IsUsedAt, IsVisibleToParent},
   task_table.specs.Residents.{AreResidents},
 };
 
@@ -175,6 +176,7 @@ impl Tasks {
     pub fn move_home(&mut self, key: TaskKey, task: Task, to: ControlKey)
         requires there { task_at self.old.tree key ≡ Some task }
         requires live { lives task ≡ true }
+        requires stays { left_at self.old.threads key ≡ false }
         requires stands { stands self.old.charges to ≡ true }
         ensures tasks { self.new.tree.tasks ≡ slice_set self.old.tree.tasks key (Some (record task { home = to })) }
         ensures controls { self.new.charges.controls ≡ self.old.charges.controls }
@@ -196,15 +198,12 @@ impl Tasks {
     pub fn finish(&mut self, key: TaskKey, task: Task, end: Ended)
         requires there { task_at self.old.tree key ≡ Some task }
         requires live { lives task ≡ true }
-        requires visible { (p : ℕ) → parent_of self.old.tree key ≡ Some p
-            → (u : Identifier) × (identifier_at self.old.numbering p ≡ Some u)
-            × IsSome (number_of self.old.numbering key u.space) }
+        requires stays { left_at self.old.threads key ≡ false }
+        requires visible { IsVisibleToParent self.old key }
         ensures tasks { self.new.tree.tasks ≡ slice_set self.old.tree.tasks key
             (Some (record task { life = Life.Zombie end })) }
         ensures parents { self.new.tree.parents ≡ self.old.tree.parents }
-        ensures home { ChangesHome self.old.charges self.new.charges task.home
-            (option_map (λ (h : Home). record h { live = h.live - 1; zombies = h.zombies + 1 })
-            (home_at self.old.charges task.home)) }
+        ensures home { EndsCharge self.old.charges self.new.charges task.home }
         ensures rest { (self.new.numbering ≡ self.old.numbering) × (self.new.members ≡ self.old.members) }
         ensures threads { self.new.threads ≡ self.old.threads }
     {
@@ -220,9 +219,7 @@ impl Tasks {
     #[inline(always)]
     fn rank_for(&self, key: TaskKey) -> Pid
         requires key { key < length self.now.tree.tasks }
-        requires visible { (p : ℕ) → parent_of self.now.tree key ≡ Some p
-            → (u : Identifier) × (identifier_at self.now.numbering p ≡ Some u)
-            × IsSome (number_of self.now.numbering key u.space) }
+        requires visible { IsVisibleToParent self.now key }
         ensures { (p : ℕ) → parent_of self.now.tree key ≡ Some p → (u : Identifier)
             → identifier_at self.now.numbering p ≡ Some u → number_of self.now.numbering key u.space ≡ Some result }
     {
@@ -328,7 +325,8 @@ impl Tasks {
     /// process's.
     #[inline(always)]
     pub fn remove(&mut self, key: TaskKey, task: Task)
-        requires { task_at self.old.tree key ≡ Some task }
+        requires there { task_at self.old.tree key ≡ Some task }
+        requires stays { left_at self.old.threads key ≡ false }
         ensures tasks { self.new.tree.tasks ≡ slice_set self.old.tree.tasks key None }
         ensures parent { parent_of self.new.tree key ≡ None }
         ensures parents { (k : ℕ) → k ≢ key → parent_of self.new.tree k ≡ parent_of self.old.tree k }

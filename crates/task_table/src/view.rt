@@ -68,8 +68,8 @@ pub fn is_live(task: &Task) -> bool
     }
 }
 
-/// The key of a task's own namespace.
-fn own_space(store: &Tasks, key: TaskKey) -> SpaceKey
+/// The key of a task's own namespace, the innermost in which it has a number. It costs one read.
+pub fn own_space(store: &Tasks, key: TaskKey) -> SpaceKey
     requires { IsSome (task_at store.now.tree key) }
     ensures own { (u : Identifier) → identifier_at store.now.numbering key ≡ Some u → result ≡ u.space }
     ensures id { id_at store.now.numbering result ≡ Some (name_at store.now.numbering key).space }

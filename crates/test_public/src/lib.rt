@@ -69,6 +69,8 @@ mod store_threads;
 #[cfg(test)]
 mod texts;
 #[cfg(test)]
+mod thread_calls;
+#[cfg(test)]
 mod threads;
 #[cfg(test)]
 mod tree;

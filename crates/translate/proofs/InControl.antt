@@ -13,7 +13,7 @@ use Rattle.pid_numbers.specs.Numbering.{id_at, number_of}
 use Rattle.pids_charge.specs.Charges.{stands, home_id}
 use Rattle.task_tree.specs.declared.Task.{Task}
 use Rattle.task_tree.specs.Tree.{task_at, lives}
-use Rattle.task_table.specs.Store.{Store}
+use Rattle.task_table.specs.Store.{Store, HasNoThreads}
 use Rattle.task_table.specs.View.{row_of, state_of}
 use Rattle.task_table.specs.Lawful.{IsLawful}
 use Rattle.task_table.specs.Residents.{live_home, AreResidents}
@@ -31,14 +31,14 @@ both-of : (a b : Bool) → (a && b) ≡ true → (a ≡ true) × (b ≡ true)
 both-of true b e = (refl, e)
 both-of false b e = absurd (cc)
 
-module _ (s : Store) (l : IsLawful s) (home : ℕ) (up : stands s.charges home ≡ true) where
+module _ (s : Store) (l : IsLawful s) (alone : HasNoThreads s.threads) (home : ℕ) (up : stands s.charges home ≡ true) where
   -- a live task's home stands
   up-home : (k : ℕ) (t : Task) → task_at s.tree k ≡ Some t → lives t ≡ true → stands s.charges t.home ≡ true
   up-home k t there live = go (stands s.charges t.home) refl
     where
       go : (b : Bool) → stands s.charges t.home ≡ b → b ≡ true
       go true e = refl
-      go false e = absurd (let some = live_some s l.agree k t there live in let none = l.ended t.home e in omega (arith, some, none))
+      go false e = absurd (let some = live_some s l.agree k t there live (alone.stays k) in let none = l.ended t.home e in omega (arith, some, none))
 
   -- the group's id is that of one key alone
   home-told : (k : ℕ) (t : Task) → task_at s.tree k ≡ Some t → resides (home_id s.charges home) (row_of s k t) ≡ true → live_home (task_at s.tree k) ≡ Some home

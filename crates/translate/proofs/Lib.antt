@@ -1,4 +1,5 @@
 pub mod Least
+pub mod LeastThread
 pub mod LeastFrom
 pub mod Parts
 pub mod Walks

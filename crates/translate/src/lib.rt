@@ -24,6 +24,7 @@ pub mod residents;
 pub mod shown;
 pub mod space;
 pub mod stat;
+pub mod threads;
 
 use model_laws::sights::queries_answer_seen;
 use pid_types::call::Kind;

@@ -20,7 +20,7 @@ use task_table::view::{Found, find_caller, find_live, find_task, laws};
 
 /// The number of an identifier in a namespace, 0 where it is not visible there.
 #[inline(always)]
-fn seen(store: &Tasks, space: SpaceKey, key: IdentKey) -> Pid
+pub(crate) fn seen(store: &Tasks, space: SpaceKey, key: IdentKey) -> Pid
     requires { IsSome (identifier_at store.now.numbering key) }
     ensures { (i : ℕ) → id_at store.now.numbering space ≡ Some i
         → result ≡ number_or_zero (state_of store.now).spaces (name_at store.now.numbering key) i }
@@ -31,7 +31,7 @@ fn seen(store: &Tasks, space: SpaceKey, key: IdentKey) -> Pid
 
 /// The number of a task in a namespace.
 #[inline(always)]
-fn seen_task(store: &Tasks, space: SpaceKey, key: IdentKey) -> Pid
+pub(crate) fn seen_task(store: &Tasks, space: SpaceKey, key: IdentKey) -> Pid
     requires { IsSome (task_at store.now.tree key) }
     ensures { (i : ℕ) → id_at store.now.numbering space ≡ Some i
         → result ≡ number_or_zero (state_of store.now).spaces (name_at store.now.numbering key) i }

@@ -5,7 +5,7 @@ ghost use Rattle.std.specs.Prelude.{◌≡◌, ◌+◌, true, IfOk, OnErr};
 ghost use Rattle.{
   pid_types.specs.Short.{reply_of},
   pids_charge.specs.Charges.{stands, home_id},
-  task_table.specs.{Found.{IsFound}, View.{row_of, state_of}, Whole.{IsWhole}},
+  task_table.specs.{Found.{IsFound}, Store.{HasNoThreads}, View.{row_of, state_of}, Whole.{IsWhole}},
   translate.specs.{Pages.{AreLeastFrom}, Residents.{residents_seen, TellsControlTasks}},
 };
 
@@ -37,6 +37,7 @@ fn list_residents(
     room: usize,
 ) -> Result<Vec<Pid>, AllocError>
     requires found { IsFound store.now caller.now }
+    requires alone { HasNoThreads store.now.threads }
     requires stands { stands store.now.charges home ≡ true }
     ensures { IfOk result (λ r. AreLeastFrom (residents_seen (state_of store.now) (home_id store.now.charges home)
         (row_of store.now caller.now.key caller.now.task)) from (room + 1) r.items) }

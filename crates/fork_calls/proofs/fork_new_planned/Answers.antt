@@ -13,6 +13,7 @@ use Rattle.fork_calls.proofs.fork_new_planned.Goals as goal
 pub fork_new-requires-clause-home : goal.fork_new-requires-clause-home
 fork_new-requires-clause-home c =
     ap (λ (t : Task). stands c.args.store.now.charges t.home) c.child_of-task.ensures ∙ live-home c.args.store.now c.laws.ensures c.args.found.now.key c.args.found.now.task c.requires.caller.found.there c.requires.caller.live
+    (c.requires.whole.alone.stays c.args.found.now.key)
 
 pub fork_new-requires-clause-outer : goal.fork_new-requires-clause-outer
 fork_new-requires-clause-outer c = inside.outer c.args.store.now c.laws.ensures c.requires.whole c.args.stamp c.requires.below c.args.found.now.space c.args.found.now.task.children_space c.requires.id c.requires.stands c.requires.shallow

@@ -14,7 +14,7 @@ pub fork-requires-clause-home : goal.fork-requires-clause-home
 fork-requires-clause-home c =
     let found = c.requires.caller.found.there in
     ap (λ (t : Task). stands c.args.store.now.charges t.home) c.child_of-task.ensures
-    ∙ live-home c.args.store.now c.laws.ensures c.args.found.now.key c.args.found.now.task found c.requires.caller.live
+    ∙ live-home c.args.store.now c.laws.ensures c.args.found.now.key c.args.found.now.task found c.requires.caller.live (c.requires.whole.alone.stays c.args.found.now.key)
 
 pub returns-in-Some-clause-state : goal.returns-in-Some-clause-state
 returns-in-Some-clause-state c =

@@ -7,6 +7,7 @@ use Rattle.fork_calls.proofs.passed_limit.Goals as goal
 
 pub may_charge-requires : goal.may_charge-requires
 may_charge-requires c = ap (λ v. stands v c.args.found.now.task.home) c.controls.ensures ∙ live-home c.args.store.now c.laws.ensures c.args.found.now.key c.args.found.now.task c.requires.caller.found.there c.requires.caller.live
+    (c.requires.whole.alone.stays c.args.found.now.key)
 
 pub returns-in-Ok : goal.returns-in-Ok
 returns-in-Ok c =

@@ -16,3 +16,6 @@ returns-clause-state c =
     let f : HasFallen old new u.0.space c.args.init.now.key c.args.status =
     record { slots = c.fall.ensures.slots u.0 u.1; marked = b.0; falls = b.1; laws = b.2; less = b.3; homes = c.fall.ensures.homes; parents = c.fall.ensures.tree; threads = c.fall.ensures.threads } in
     sym (fallen old new c.laws.ensures c.laws-2.ensures c.requires.whole c.args.init.now.key c.args.init.now.task c.args.status c.requires.there u.0 u.1 (c.requires.top u.0 u.1).0 f)
+
+pub fall-requires-clause-alone : goal.fall-requires-clause-alone
+fall-requires-clause-alone c = c.requires.whole.alone

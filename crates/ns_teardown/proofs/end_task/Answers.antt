@@ -16,3 +16,6 @@ returns-clause-state c =
     let e : HasEnded old new c.args.found.now.key h.0 c.args.found.now.task c.args.status =
     record { tasks = c.exit.ensures.tasks; parents = h.2; home = c.exit.ensures.home; numbering = c.exit.ensures.rest.0; members = c.exit.ensures.rest.1; threads = c.exit.ensures.threads } in
     sym (ended old new c.laws.ensures c.laws-2.ensures c.requires.whole c.args.found.now.key h.0 c.args.found.now.task c.args.status c.requires.there e c.requires.live c.requires.inner h.1)
+
+pub exit-requires-clause-alone : goal.exit-requires-clause-alone
+exit-requires-clause-alone c = c.requires.whole.alone

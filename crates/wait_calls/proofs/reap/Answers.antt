@@ -21,3 +21,6 @@ returns c =
       parents = parents-left old new c.laws.ensures c.laws-2.ensures c.requires.whole c.args.child c.args.task c.requires.there c.requires.ended g;
       threads = c.remove.ensures.threads;
     }
+
+pub remove-requires-clause-stays : goal.remove-requires-clause-stays
+remove-requires-clause-stays c = c.requires.whole.alone.stays c.args.child

@@ -20,3 +20,6 @@ returns-clause-numbers c =
 
 pub returns-then-parent_falls-clause-homes : goal.returns-then-parent_falls-clause-homes
 returns-then-parent_falls-clause-homes c = grind arith
+
+pub remove-requires-clause-stays : goal.remove-requires-clause-stays
+remove-requires-clause-stays c = c.requires.alone.stays c.args.key

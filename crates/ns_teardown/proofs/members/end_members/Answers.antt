@@ -1,5 +1,6 @@
 -- Each member below the number reached is as after the fall, each above it as before, but that its parent may have gone already
-use Rattle.std.proofs.Common.{◌≡◌, ◌<◌, ◌≤◌, refl, ◌∙◌, arith}
+use Rattle.std.proofs.Common.{◌≡◌, ◌<◌, ◌≤◌, refl, sym, subst, ◌∙◌, arith}
+use Rattle.task_table.specs.Store.{HasNoThreads}
 use Rattle.task_table.proofs.Less as less
 use Rattle.ns_teardown.proofs.Falling as falling
 use Rattle.task_table.proofs.Changed as changed
@@ -76,3 +77,6 @@ pub returns-clause-slots : goal.returns-clause-slots
 returns-clause-slots c =
     let none = rw c.numbers.ensures at c.in_default.ensures in
     falling.all-passed c.args.store.now c.laws.ensures c.requires.parents c.args.space c.args.init c.args.status c.loop-number.store c.laws-2.ensures.agree c.loop-number.invariant.numbers c.loop-number.from c.loop-number.invariant.slots none
+
+pub end_member-requires-clause-alone : goal.end_member-requires-clause-alone
+end_member-requires-clause-alone c = subst HasNoThreads (sym c.loop-number.invariant.threads) c.requires.alone

@@ -6,7 +6,7 @@ use Rattle.pid_types.specs.declared.plain.Life.{Life}
 use Rattle.pid_types.specs.declared.plain.Ended.{Ended}
 use Rattle.std.specs.Prelude.{slice_index_or, slice_set}
 use Rattle.task_tree.specs.declared.Task.{Task}
-use Rattle.task_table.specs.Store.{Store}
+use Rattle.task_table.specs.Store.{Store, HasNoThreads}
 use Rattle.ns_teardown.proofs.NewParents as parents
 use Rattle.ns_teardown.proofs.teardown.exit.Goals as goal
 
@@ -32,3 +32,8 @@ returns-clause-tree c =
 
 pub returns-clause-threads : goal.returns-clause-threads
 returns-clause-threads c = c.finish.ensures.threads ∙ ap (λ (s : Store). s.threads) c.hand_children.ensures.rest
+
+pub finish-requires-clause-stays : goal.finish-requires-clause-stays
+finish-requires-clause-stays c =
+    let alone = subst HasNoThreads (sym (ap (λ (s : Store). s.threads) c.hand_children.ensures.rest)) c.requires.alone in
+    alone.stays c.args.found.now.key

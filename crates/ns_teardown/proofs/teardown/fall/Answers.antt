@@ -1,7 +1,7 @@
 -- Marking namespaces as fallen changes no number or parent: so how each member ends is told by the store before the fall
-use Rattle.std.proofs.Common.{◌≡◌, is_some, sym, ap, ◌∙◌, arith}
+use Rattle.std.proofs.Common.{◌≡◌, is_some, sym, ap, subst, ◌∙◌, arith}
 use Rattle.pid_numbers.specs.Numbering.{path_at}
-use Rattle.task_table.specs.Store.{Store}
+use Rattle.task_table.specs.Store.{Store, HasNoThreads}
 use Rattle.ns_teardown.specs.Fall.{FallsWithin, slot_at, slot_after_fall}
 use Rattle.ns_teardown.proofs.Visible as visible
 use Rattle.ns_teardown.proofs.Marked as marked
@@ -57,3 +57,6 @@ returns-clause-init c =
 
 pub returns-clause-threads : goal.returns-clause-threads
 returns-clause-threads c = c.end_members.ensures.threads ∙ ap (λ (s : Store). s.threads) c.fell.ensures.rest
+
+pub end_members-requires-clause-alone : goal.end_members-requires-clause-alone
+end_members-requires-clause-alone c = subst HasNoThreads (sym (ap (λ (s : Store). s.threads) c.fell.ensures.rest)) c.requires.alone

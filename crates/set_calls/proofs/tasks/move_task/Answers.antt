@@ -29,3 +29,6 @@ returns-clause-state c =
 
 pub returns-clause-threads : goal.returns-clause-threads
 returns-clause-threads c = ap (λ (s : Store). s.threads) c.move_home.ensures.rest
+
+pub move_home-requires-clause-stays : goal.move_home-requires-clause-stays
+move_home-requires-clause-stays c = c.requires.alone.stays c.in-Some.found.key

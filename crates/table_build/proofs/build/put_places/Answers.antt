@@ -31,7 +31,7 @@ pub put_spaces-requires-clause-ungrouped : goal.put_spaces-requires-clause-ungro
 put_spaces-requires-clause-ungrouped c =
     let s = c.in_ok-store.ensures in
     ungrouped-charges c.in_ok-store.store c.put_controls.new.store c.in_ok-put_controls.ensures.rest
-    (ungrouped-new c.in_ok-store.store c.laws.ensures s.tasks s.members s.names s.root s.others)
+    (ungrouped-new c.in_ok-store.store c.laws.ensures s.tasks s.members s.names s.root s.others s.threads)
 
 pub returns-clause-nobody : goal.returns-clause-nobody
 returns-clause-nobody c = record {

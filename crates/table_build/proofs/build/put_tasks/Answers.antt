@@ -5,7 +5,6 @@ use Rattle.table_build.proofs.LineSteps.{lines-same}
 use Rattle.table_build.proofs.Steps.{places-both}
 use Rattle.table_build.proofs.Places.{none_some}
 use Rattle.task_table.specs.Store.{HasNoThreads}
-use Rattle.task_table.proofs.Threaded.{alone-borne}
 use Rattle.table_build.proofs.build.put_tasks.Goals as goal
 
 pub returns-clause-rows : goal.returns-clause-rows
@@ -15,7 +14,7 @@ returns-clause-rows c =
     let rows = c.args.saved.now.rows in
     let few = c.in_ok-enter_sessions.ensures.keys in
     let lines = lines-same c.settle_tasks.new.store s placed placed (slice_get rows) c.in_ok-settle_tasks.ensures.lines c.remove_placeholders.ensures.keeps.lines refl in
-    rows-are s c.laws-2.ensures placed rows lines few c.remove_placeholders.ensures.gone (rows-rise s c.laws-2.ensures placed rows lines few c.in_ok-placed.ensures.sorted)
+    rows-are s c.laws.ensures placed rows lines few c.remove_placeholders.ensures.gone (rows-rise s c.laws.ensures placed rows lines few c.in_ok-placed.ensures.sorted)
 
 pub settle_tasks-requires-clause-keys : goal.settle_tasks-requires-clause-keys
 settle_tasks-requires-clause-keys c = grind arith
@@ -43,7 +42,7 @@ settle_tasks-requires-clause-all c = grind arith
 pub settle_tasks-requires-clause-grouping : goal.settle_tasks-requires-clause-grouping
 settle_tasks-requires-clause-grouping c =
     let u = c.in_ok-enter_sessions.ensures.keeps.ungrouped in
-    record { kin = λ k p e. absurd (none_some (sym (u.orphans k) ∙ e)); borne = u.borne; standing = u.standing }
+    record { kin = λ k p e. absurd (none_some (sym (u.orphans k) ∙ e)); borne = u.borne; standing = u.standing; single = u.single }
 
 pub settle_tasks-requires-clause-real : goal.settle_tasks-requires-clause-real
 settle_tasks-requires-clause-real c = λ k q e. absurd (none_some (sym (c.in_ok-enter_sessions.ensures.keeps.ungrouped.orphans k) ∙ e))
@@ -52,9 +51,7 @@ pub remove_placeholders-requires-clause-few : goal.remove_placeholders-requires-
 remove_placeholders-requires-clause-few c = grind arith
 
 pub returns-clause-alone : goal.returns-clause-alone
-returns-clause-alone c =
-    subst HasNoThreads (sym c.remove_placeholders.ensures.threads)
-    (alone-borne c.settle_tasks.new.store c.laws.ensures.agree c.thread_laws.ensures c.in_ok-settle_tasks.ensures.keeps.grouping.borne)
+returns-clause-alone c = subst HasNoThreads (sym c.remove_placeholders.ensures.threads) c.in_ok-settle_tasks.ensures.keeps.grouping.single
 
 pub returns-clause-places : goal.returns-clause-places
 returns-clause-places c =

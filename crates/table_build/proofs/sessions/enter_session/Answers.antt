@@ -2,6 +2,7 @@ use Rattle.std.proofs.Common.{◌≡◌, ap, sym, subst, ◌∙◌, is_some, tru
 use Rattle.std.proofs.lemmas.Grind.{common_steps}
 use Rattle.pid_types.specs.declared.plain.Name.{Name}
 use Rattle.pid_types.specs.declared.plain.Row.{Row}
+use Rattle.task_table.specs.Store.{HasNoThreads}
 use Rattle.task_table.specs.View.{name_at}
 use Rattle.task_table.proofs.Changes.{in_range}
 use Rattle.task_table.proofs.InUse.{task-used}
@@ -34,6 +35,7 @@ returns-clause-keeps c =
         alone = λ k g at. still_alone c.args.store.now.members c.args.key c.args.session low c.requires.ungrouped.alone k g (sym (ap (λ m. group_of m k) c.move_to.ensures.members) ∙ at);
         borne = borne-less c.args.store.now c.move_to.new.self c.move_to.ensures.rest.0 c.move_to.ensures.numbers c.requires.ungrouped.borne;
         standing = standing-less c.args.store.now.numbering c.move_to.new.self.numbering c.laws.ensures.numbering c.requires.ungrouped.standing c.move_to.ensures.numbers;
+        single = subst HasNoThreads (sym c.move_to.ensures.threads) c.requires.ungrouped.single;
       };
       places = places-less c.args.store.now c.move_to.new.self c.laws.ensures.numbering c.requires.ungrouped.standing c.move_to.ensures.numbers c.move_to.ensures.rest.1;
       names = bearers-stay c.args.store.now c.move_to.new.self c.laws.ensures c.laws-2.ensures c.move_to.ensures.rest.0 c.move_to.ensures.numbers;

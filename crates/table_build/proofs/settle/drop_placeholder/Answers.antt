@@ -1,6 +1,7 @@
-use Rattle.std.proofs.Common.{◌≡◌, ◌≢◌, inl, inr, ℕ, true, Some, ap, sym, ◌∙◌, option_map, true≢false}
+use Rattle.std.proofs.Common.{◌≡◌, ◌≢◌, inl, inr, ℕ, true, Some, ap, sym, subst, ◌∙◌, option_map, true≢false}
 use Rattle.std.proofs.lemmas.Bool.{cases_eq}
 use Rattle.task_tree.specs.Tree.{task_at, parent_of}
+use Rattle.task_table.specs.Store.{HasNoThreads}
 use Rattle.task_table.specs.View.{row_of, row_with}
 use Rattle.task_table.proofs.Gone as left
 use Rattle.task_table.proofs.Gone.{IsGone}
@@ -8,6 +9,9 @@ use Rattle.table_build.specs.Lines.{is_held}
 use Rattle.table_build.proofs.Moves.{spaces-stay, standing-less}
 use Rattle.table_build.proofs.Places.{none_some}
 use Rattle.table_build.proofs.settle.drop_placeholder.Goals as goal
+
+pub remove-requires-clause-stays : goal.remove-requires-clause-stays
+remove-requires-clause-stays c = c.requires.single.stays c.args.key
 
 pub returns : goal.returns
 returns c =
@@ -26,6 +30,7 @@ returns c =
         settled = record {
           kin = left.parents-left s t c.laws.ensures c.laws-2.ensures c.requires.kin c.args.key c.in-Some.task at alone g;
           standing = standing-less s.numbering t.numbering c.laws.ensures.numbering c.requires.standing r.numbers;
+          single = subst HasNoThreads (sym r.threads) c.requires.single;
           real = λ k q e. elim (cases_eq k c.args.key) [
             | inl same ↦ absurd (none_some (sym r.parent ∙ ap (parent_of t.tree) (sym same) ∙ e))
             | inr not ↦ c.requires.real k q (sym (r.parents k not) ∙ e)

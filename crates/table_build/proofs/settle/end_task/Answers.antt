@@ -31,6 +31,9 @@ returns-clause-ended c =
       }) row e;
     }
 
+pub finish-requires-clause-stays : goal.finish-requires-clause-stays
+finish-requires-clause-stays c = c.requires.grouping.single.stays c.args.key
+
 pub finish-requires-clause-visible : goal.finish-requires-clause-visible
 finish-requires-clause-visible c = grind arith
 

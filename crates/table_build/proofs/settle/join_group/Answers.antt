@@ -5,6 +5,7 @@ use Rattle.pid_types.specs.declared.plain.Row.{Row}
 use Rattle.std.specs.Prelude.{slice_set}
 use Rattle.groups_sessions.specs.Membership.{Membership, membership_at, session_of}
 use Rattle.task_tree.specs.Tree.{task_at, parent_of}
+use Rattle.task_table.specs.Store.{HasNoThreads}
 use Rattle.task_table.specs.View.{name_at, row_with}
 use Rattle.task_table.proofs.Regrouped.{IsRegrouped}
 use Rattle.task_table.proofs.Seated.{session-name}
@@ -31,6 +32,7 @@ grouping c = record {
   kin = λ k p e. ap (λ x. is_some (task_at x p)) c.set_group.ensures.rest.0 ∙ c.requires.grouping.kin k p (sym (ap (λ x. parent_of x k) c.set_group.ensures.rest.0) ∙ e);
   borne = borne-less c.args.store.now c.set_group.new.self c.set_group.ensures.rest.0 c.set_group.ensures.numbers c.requires.grouping.borne;
   standing = standing-less c.args.store.now.numbering c.set_group.new.self.numbering c.laws.ensures.numbering c.requires.grouping.standing c.set_group.ensures.numbers;
+  single = subst HasNoThreads (sym c.set_group.ensures.threads) c.requires.grouping.single;
 }
 
 sets : (c : goal.After-laws-2) (row : Row) → row_with c.args.store.now c.args.key ≡ Some row

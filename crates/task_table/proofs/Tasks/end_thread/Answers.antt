@@ -34,13 +34,13 @@ invariant_of-self c =
     record {
       agree =
           threads.changed old c.free_thread.new.self c.uncharge_thread.new.controls c.remove.new.self c.self.invariant.agree c.args.key None uses
-          c.remove.ensures.threads room (λ h. ap (λ o. live_at c.uncharge_thread.new.controls h + one_if (is_homed h o)) there ∙ (let a = (counts h).0 in omega (arith, a))) (λ h. (counts h).1)
+          c.remove.ensures.threads c.remove.ensures.left room (λ h. ap (λ o. live_at c.uncharge_thread.new.controls h + one_if (is_homed h o)) there ∙ (let a = (counts h).0 in omega (arith, a))) (λ h. (counts h).1)
           (let a = c.uncharge_thread.ensures.tasks in let b = ap (λ o. one_if (is_some o)) there in omega (arith, a, b))
           (less.ranks-less c.self.inside.numbers c.laws.ensures.full c.laws.ensures.own c.free_thread.new.self l c.self.inside.tree c.laws-2.ensures.waiting
           (λ k on. let a = uses Task k in let b = c.self.invariant.agree.tasks k in let d = ap one_if on in omega (arith, a, b, d)) c.self.invariant.agree.ranks);
       threaded =
           threads.changed-threaded c.self.inside.numbers c.free_thread.new.self c.self.inside.threads c.remove.new.self c.self.invariant.threaded c.args.key None
-          c.remove.ensures.threads c.remove.ensures.left room f.others (ap is_thread f.here);
+          c.remove.ensures.threads room f.others (ap is_thread f.here);
       housed =
           housed.kept-tasks c.self.inside.tree.tasks c.self.inside.controls c.uncharge_thread.new.controls c.self.inside.residents c.self.invariant.housed
           (housed.less-left c.self.inside.controls c.uncharge_thread.new.controls (threads.as_task c.args.thread) c.uncharge_thread.ensures.home);

@@ -4,7 +4,9 @@ use Rattle.pid_types.specs.declared.plain.Life.TheVariants.{Zombie}
 use Rattle.task_tree.specs.declared.Task.{Task}
 use Rattle.task_tree.specs.Tree.{rank_of}
 use Rattle.pids_charge.specs.Charges.{Home}
-use Rattle.task_table.specs.Store.{Store}
+use Rattle.process_threads.specs.Threads.{left_at}
+use Rattle.task_table.specs.Store.{Store, lives_in}
+use Rattle.task_table.proofs.Marks as marks
 use Rattle.task_table.proofs.Changes as changes
 use Rattle.task_table.proofs.HomeCounts as homes
 use Rattle.task_table.proofs.Housed as housed
@@ -31,11 +33,13 @@ pub invariant_of-self : goal.invariant_of-self
 invariant_of-self c = record {
   agree =
       let there = rw (← c.self.view_is) at c.requires.there in
+      let stays = rw (← c.self.view_is) at c.requires.stays in
       let old : Store = record { numbering = c.self.inside.numbers; tree = c.self.inside.tree; members = c.self.inside.members; charges = c.self.inside.controls; threads = c.self.inside.threads } in
       let task : Task = record c.args.task { life = Zombie c.args.end } in
       changes.retasked old _ c.self.invariant.agree c.args.key c.args.task task there refl refl refl c.finish.ensures.tasks
-      (homes.live-died c.self.inside.controls c.died.new.self c.args.task task c.died.ensures.home c.requires.live refl refl (changes.live_some old c.self.invariant.agree c.args.key c.args.task there c.requires.live))
-      (homes.zombies-died c.self.inside.controls c.died.new.self c.args.task task c.died.ensures.home c.requires.live refl refl (changes.live_some old c.self.invariant.agree c.args.key c.args.task there c.requires.live))
+      (marks.not-marked (left_at c.self.inside.threads c.args.key) stays) (λ h. marks.unmarked (left_at c.self.inside.threads c.args.key) stays (lives_in h (Some task)) (lives_in h (Some c.args.task)))
+      (homes.live-died c.self.inside.controls c.died.new.self c.args.task task c.died.ensures.home c.requires.live refl refl (changes.live_some old c.self.invariant.agree c.args.key c.args.task there c.requires.live stays))
+      (homes.zombies-died c.self.inside.controls c.died.new.self c.args.task task c.died.ensures.home c.requires.live refl refl (changes.live_some old c.self.invariant.agree c.args.key c.args.task there c.requires.live stays))
       c.died.ensures.tasks
       (changes.ranks-finished c.self.inside.numbers c.self.inside.tree c.finish.new.self c.args.key c.rank_for-rank.result c.self.invariant.agree.ranks
       (let numbered = rw (← c.self.view_is) at c.rank_for-rank.ensures in numbered) c.finish.ensures.rank c.finish.ensures.others);
@@ -49,4 +53,8 @@ invariant_of-self c = record {
 }
 
 pub died-requires : goal.died-requires
-died-requires c = grind (arith, common_steps)
+died-requires c =
+    let old : Store = record { numbering = c.self.inside.numbers; tree = c.self.inside.tree; members = c.self.inside.members; charges = c.self.inside.controls; threads = c.self.inside.threads } in
+    let there = rw (← c.self.view_is) at c.requires.there in
+    let stays = rw (← c.self.view_is) at c.requires.stays in
+    changes.live_some old c.self.invariant.agree c.args.key c.args.task there c.requires.live stays

@@ -18,12 +18,12 @@ invariant_of-self c =
     record {
       agree =
           threads.changed old c.self.inside.numbers c.transfer.new.self c.update.new.self c.self.invariant.agree c.args.key (Some (record c.args.thread { home = c.args.to })) (λ k i. refl)
-          c.update.ensures.threads room (λ h. ap (λ o. live_at c.transfer.new.self h + one_if (is_homed h o)) there ∙ (counts h).0) (λ h. (counts h).1)
+          c.update.ensures.threads c.update.ensures.left room (λ h. ap (λ o. live_at c.transfer.new.self h + one_if (is_homed h o)) there ∙ (counts h).0) (λ h. (counts h).1)
           (ap (λ n. n + one_if (is_some (slice_index_or c.self.inside.threads.threads c.args.key None))) c.transfer.ensures.tasks ∙ ap (λ o. all_tasks c.self.inside.controls + one_if (is_some o)) there)
           c.self.invariant.agree.ranks;
       threaded =
           threads.changed-threaded c.self.inside.numbers c.self.inside.numbers c.self.inside.threads c.update.new.self c.self.invariant.threaded c.args.key (Some (record c.args.thread { home = c.args.to }))
-          c.update.ensures.threads c.update.ensures.left room (λ i differs. refl) (c.self.invariant.threaded.held c.args.key ∙ ap is_some there);
+          c.update.ensures.threads room (λ i differs. refl) (c.self.invariant.threaded.held c.args.key ∙ ap is_some there);
       housed =
           housed.kept-tasks c.self.inside.tree.tasks c.self.inside.controls c.transfer.new.self c.self.inside.residents c.self.invariant.housed
           (housed.less-moved c.self.inside.controls c.transfer.new.self c.args.thread.home c.args.to c.transfer.ensures.homes);

@@ -1,6 +1,5 @@
 -- The new uses come before the old ones go: so no identifier in use goes, and the counts of both kinds are the memberships' again
 use Rattle.std.proofs.Common.{◌==◌, ◌&&◌, ap, subst, arith}
-use Rattle.std.proofs.lemmas.Grind.{common_steps}
 use Rattle.pid_types.proofs.General.{held}
 use Rattle.pid_types.specs.declared.call.Kind.TheVariants.{Group, Session}
 use Rattle.groups_sessions.specs.Membership.{Membership, membership_at}
@@ -62,4 +61,6 @@ returns-clause-numbers c =
     (less.IsLess-from c.self.inside.numbers c.add_uses.new.numbers c.take_uses.new.numbers c.add_uses.ensures.namespaces c.add_uses.ensures.order c.add_uses.ensures.bare c.add_uses.ensures.pid_max c.take_uses.ensures.less)
 
 pub add_uses-requires-clause-few : goal.add_uses-requires-clause-few
-add_uses-requires-clause-few c = grind (arith, common_steps)
+add_uses-requires-clause-few c k i =
+    let old : Store = record { numbering = c.self.inside.numbers; tree = c.self.inside.tree; members = c.self.inside.members; charges = c.self.inside.controls; threads = c.self.inside.threads } in
+    groups.few_uses old c.self.invariant.agree c.laws-3.ensures.few k i

@@ -9,8 +9,8 @@ pub invariant_of-result : goal.invariant_of-result
 invariant_of-result c = record {
   agree =
       begun.IsStore-empty c.in_ok-new.field-0 c.new-2.result c.new-3.result c.in_ok-new-2.field-0 c.new-5.result
-      c.in_ok-new.ensures.names c.new-2.ensures c.new-3.ensures c.new-5.ensures.threads c.in_ok-new-2.ensures.tasks c.in_ok-new-2.ensures.none;
-  threaded = threads.begun c.in_ok-new.field-0 c.new-5.result c.in_ok-new.ensures.names c.new-5.ensures.threads c.new-5.ensures.left;
+      c.in_ok-new.ensures.names c.new-2.ensures c.new-3.ensures c.new-5.ensures.threads c.new-5.ensures.left c.in_ok-new-2.ensures.tasks c.in_ok-new-2.ensures.none;
+  threaded = threads.begun c.in_ok-new.field-0 c.new-5.result c.in_ok-new.ensures.names c.new-5.ensures.threads;
   housed =
       housed.begun c.in_ok-new-2.field-0 c.new-2.result.tasks c.in_ok-no_residents.field-0 (begun.nothing c.new-2.result.tasks c.new-2.ensures) c.in_ok-new-2.ensures.key c.in_ok-no_residents.ensures.none c.in_ok-no_residents.ensures.root c.in_ok-no_residents.ensures.few;
 }

@@ -78,7 +78,7 @@ invariant_of-self-2 c =
     let parents = rw (← c.self.view_is) at c.requires.parents in
     record {
       agree =
-          threads.changed roomy c.draw_thread.new.self c.charge.new.self c.enter.new.self w c.in_ok-key.key (Some c.args.thread) uses c.enter.ensures.threads room
+          threads.changed roomy c.draw_thread.new.self c.charge.new.self c.enter.new.self w c.in_ok-key.key (Some c.args.thread) uses c.enter.ensures.threads c.enter.ensures.left room
           (λ h. let a = (counts h).0 in let b = ap (λ o. one_if (is_homed h o)) vacant in omega (arith, a, b)) (λ h. (counts h).1)
           (let a = c.charge.ensures.tasks in let b = ap (λ o. one_if (is_some o)) vacant in omega (arith, a, b))
           (births.ranks-born c.self.inside.numbers c.draw_thread.new.self c.self.inside.tree c.self.inside.tree c.in_ok-key.key new
@@ -89,7 +89,7 @@ invariant_of-self-2 c =
       threaded =
           threads.changed-threaded c.self.inside.numbers c.draw_thread.new.self c.room_for_thread.new.threads c.enter.new.self
           (threads.roomier-threaded c.self.inside.numbers c.self.inside.threads c.room_for_thread.new.threads c.self.invariant.threaded c.room_for_thread.ensures.kept)
-          c.in_ok-key.key (Some c.args.thread) c.enter.ensures.threads c.enter.ensures.left room (others c) (ap is_thread (named c));
+          c.in_ok-key.key (Some c.args.thread) c.enter.ensures.threads room (others c) (ap is_thread (named c));
       housed =
           housed.kept-tasks c.self.inside.tree.tasks c.self.inside.controls c.charge.new.self c.self.inside.residents c.self.invariant.housed
           (housed.less-mapped c.self.inside.controls c.charge.new.self c.args.thread.home (λ (h : Home). record h { live = h.live + 1 }) (λ h e. e) c.charge.ensures.home);

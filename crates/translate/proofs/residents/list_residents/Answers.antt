@@ -17,6 +17,6 @@ returns c =
     let numbers = residents_seen (state_of s) (home_id s.charges c.args.home) (row_of s caller.key caller.task) in
     subst (AreLeastFrom numbers c.args.from (c.args.room + 1)) (sym c.cut.ensures)
     (least numbers c.args.from (c.args.room + 1) c.sort.new.self.items
-    (residents-listed s c.laws.ensures c.args.home c.requires.stands caller.space (row_of s caller.key caller.task) c.requires.found.own
+    (residents-listed s c.laws.ensures c.requires.alone c.args.home c.requires.stands caller.space (row_of s caller.key caller.task) c.requires.found.own
     c.residents-keys.result c.residents-keys.ensures c.args.from c.sort.new.self.items
     (subst (λ xs. IsPermutation xs c.sort.new.self.items) added c.sort.ensures.permutation) c.in_ok-sort.ensures.sorted))

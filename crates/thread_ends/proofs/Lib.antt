@@ -1,0 +1,4 @@
+pub mod Running
+pub mod OtherLeft
+pub mod FirstLeft
+pub mod Leaves
