@@ -13,7 +13,8 @@ enum { LARGEST = 4096, MOST_SIGNALS = 64, MOST_LEVELS = 32 };
 static const uint64_t lacking = CLONE_CLEAR_SIGHAND | CLONE_INTO_CGROUP | CLONE_NEWTIME | CLONE_UNTRACED;
 static const uint64_t known = 0xffffffffu | CLONE_CLEAR_SIGHAND | CLONE_INTO_CGROUP;
 
-/* The structure, of any size that the kernel takes: what follows the known fields must be 0. An errno, or 0. */
+/* The structure, of any size that the kernel takes: what follows the known fields must be 0. An errno, or 0. Who hides
+ * his memory is told that there is no such call: then C libraries make the older one. */
 static int read_arguments(const struct thread *thread, struct clone_args *arguments)
 {
 	uint64_t at = registers_argument(&thread->made, 0), size = registers_argument(&thread->made, 1);
@@ -24,7 +25,7 @@ static int read_arguments(const struct thread *thread, struct clone_args *argume
 	if (size < CLONE_ARGS_SIZE_VER0)
 		return EINVAL;
 	if (!read_memory(thread->tid, at, bytes, size))
-		return EFAULT;
+		return thread->process->is_hidden ? ENOSYS : EFAULT;
 	memcpy(arguments, bytes, sizeof *arguments);
 	for (size_t i = sizeof *arguments; i < size; i++)
 		if (bytes[i])

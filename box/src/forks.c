@@ -42,14 +42,17 @@ static bool is_vfork(const struct registers *registers)
 }
 
 /* The flags that clone(2) is given. A child that is traced by its flag costs a stop less than one by an option of the tracer. A parent in
- * vfork(2) is only heard of by an event, and a child that ends by another signal has one. */
-static uint64_t flags_given(const struct clone_words *words)
+ * vfork(2) is only heard of by an event, and a child that ends by another signal has one. Who is traced so is told its
+ * number at its first stop: for the kernel to write its own before costs a fault, and is for where this one cannot. */
+static uint64_t flags_given(const struct process *caller, const struct clone_words *words)
 {
 	uint64_t flags = words->flags & ~(uint64_t)CLONE_NEWPID;
 
 	if ((flags & CLONE_PIDFD) && (flags & CLONE_PARENT_SETTID) && words->pidfd != words->parent_tid)
 		flags &= ~(uint64_t)CLONE_PARENT_SETTID;
-	return !(flags & CLONE_VFORK) && (flags & CSIGNAL) == SIGCHLD ? flags | CLONE_PTRACE : flags;
+	if ((flags & CLONE_VFORK) || (flags & CSIGNAL) != SIGCHLD)
+		return flags;
+	return (caller->is_hidden ? flags : flags & ~(uint64_t)CLONE_CHILD_SETTID) | CLONE_PTRACE;
 }
 
 static enum onward give_words(struct thread *thread, struct registers *registers, const struct clone_words *words)
@@ -59,7 +62,7 @@ static enum onward give_words(struct thread *thread, struct registers *registers
 	thread->has_changed_call = false;
 	if (is_vfork(registers))
 		return watch(thread, registers);
-	thread->given_flags = flags_given(words);
+	thread->given_flags = flags_given(thread->process, words);
 	thread->has_changed_call = !is_clone || thread->given_flags != words->flags;
 	registers_set_argument(registers, FLAGS, thread->given_flags);
 	registers_set_argument(registers, STACK, words->stack);

@@ -39,6 +39,13 @@ def build(name, file, old, new):
     return made
 
 
+def clear():
+    """Nothing is left of the faults that were planted."""
+    shutil.rmtree(OUT / "fault")
+    for log in OUT.glob("fault-*"):
+        log.unlink()
+
+
 def faults(tell):
     """A fault is found where a difference is reported, or the box stops over it. Without one nothing is."""
     script = str(TESTS / "inside/faulty.py")
@@ -51,7 +58,5 @@ def faults(tell):
         run = in_box(["/usr/bin/python3", script, program], f"fault-{program}", 20, box=made)
         if not run.differences:
             tell.fault(f"fault: {name}", f"not reported: {run.output}")
-    shutil.rmtree(OUT / "fault")
-    for log in OUT.glob("fault-*"):
-        log.unlink()
+    clear()
     tell.say("faults", f"{len(FAULTS)} planted, and each looked for")

@@ -6,6 +6,7 @@ import shutil
 import subprocess
 import time
 
+import faults
 import rig
 from rig import BOX, OUT, PROGRAM, TESTS, TOP, in_box, in_kernel
 
@@ -80,7 +81,7 @@ def refused(tell):
 
 
 # Two processes of a name and one of another that may not be dumped, a thread of one of them, and one that may: each
-# waits twice for a child.
+# has a child, whose number clone(2) is to write into its memory.
 HIDDEN = """
 import ctypes, os, socket, threading
 libc = ctypes.CDLL(None)
@@ -93,17 +94,32 @@ for name, dumpable in ((b"first", 0), (b"first", 0), (b"a second", 0), (b"third"
         thread = threading.Thread(target=ask)
         thread.start()
         thread.join()
+        own = ctypes.c_int(0)
+        if libc.syscall(56, 0x1000011, 0, 0, ctypes.c_void_p(ctypes.addressof(own)), 0) == 0:
+            os._exit(own.value == 0)
+        print("told" if os.wait()[1] == 0 else "not told", flush=True)
         os._exit(0)
     os.wait()
 """
 
 
+# Each child has a number in its memory: the box has written it, or the kernel where the box cannot.
+UNTOLD = (("a child is not told its number", "tracer.c", "if (thread->tid_at)", "if (false)"),
+    ("a hidden child is not told a number", "forks.c", "caller->is_hidden ? flags : flags", "flags"),
+    ("a hidden program has no threads", "clone3.c", "thread->process->is_hidden ? ENOSYS : EFAULT", "EFAULT"))
+
+
 def hidden(tell):
     """The report names each program whose memory the box may not read, as often as there were processes of it."""
-    found = re.findall(r"undumpable: (.*) \(.*\): (\d+)", in_box([PYTHON, "-c", HIDDEN], "hidden").report)
-    if found != [("first", "2"), ("a second", "1")]:
-        tell.fault("hidden", str(found))
-    tell.say("hidden", f"{len(found)} programs are named")
+    box = in_box([PYTHON, "-c", HIDDEN], "hidden")
+    found = re.findall(r"undumpable: (.*) \(.*\): (\d+)", box.report)
+    if found != [("first", "4"), ("a second", "2")] or box.output != 4 * "told\n":
+        tell.fault("hidden", f"{found} {box.output}")
+    for fault in UNTOLD:
+        if 4 * "told\n" == in_box([PYTHON, "-c", HIDDEN], "fault-hidden", box=faults.build(*fault)).output:
+            tell.fault("hidden", f"a planted fault is not found: {fault[0]}")
+    faults.clear()
+    tell.say("hidden", f"{len(found)} programs are named, and {len(UNTOLD)} planted faults are found")
 
 
 def host(tell):
