@@ -379,6 +379,7 @@ bool read_status(pid_t process, pid_t thread, const char *format, void *value);
 
 extern bool shows_proc;
 
+bool path_is_elsewhere(const struct thread *thread);
 char *content_of(const struct thread *thread, const char *path, const char *file, pid_t real, size_t *size);
 char *content_of_group(const struct thread *thread, const char *path, enum kind kind, bool has_unseen, size_t *size);
 int copy_make(uint32_t root, const char *path, char *text, size_t size, bool is_written);
@@ -391,6 +392,7 @@ bool is_copy_of_none(const struct thread *thread, int file);
 
 enum group_file { NOT_OF_GROUP, OF_KERNEL, OF_TABLE };
 
+bool group_may_have(const char *path);
 enum group_file group_file(const struct thread *thread, const char *path, int folder, bool is_written);
 int open_folder(const struct thread *thread, const char *path, int folder);
 int open_target(const struct thread *thread, const char *path, int folder);

@@ -28,7 +28,7 @@ static enum kind kind_of(const char *path)
 	return NO_KIND;
 }
 
-static bool may_be(const char *path)
+bool group_may_have(const char *path)
 {
 	return kind_of(path) || control_may_have(path);
 }
@@ -77,7 +77,7 @@ int open_target(const struct thread *thread, const char *path, int folder)
 	if (at < 0)
 		return -1;
 	file = open_path(at, path, 0, RESOLVE_CACHED);
-	if (file < 0 && errno == EAGAIN && (may_be(path) || is_link(at, path) || control_may_be_below(thread, path, folder)))
+	if (file < 0 && errno == EAGAIN && (group_may_have(path) || is_link(at, path) || control_may_be_below(thread, path, folder)))
 		file = open_path(at, path, 0, 0);
 	close(at);
 	return file;
@@ -115,7 +115,7 @@ enum group_file group_file(const struct thread *thread, const char *path, int fo
 
 	if (!strncmp(path, "/proc/", 6))
 		return file_of_link(path);
-	if (!is_written && !may_be(path))
+	if (!is_written && !group_may_have(path))
 		return NOT_OF_GROUP;
 	file = open_target(thread, path, folder);
 	if (file < 0)

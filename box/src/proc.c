@@ -9,6 +9,7 @@
 #include <stddef.h>
 #include <stdlib.h>
 #include <string.h>
+#include <sys/ptrace.h>
 #include <unistd.h>
 
 bool shows_proc = true;
@@ -212,15 +213,52 @@ static int folder_of(const struct thread *thread, int index, bool has_folder)
 	return has_folder ? (int)call_argument(thread, index - 1) : AT_FDCWD;
 }
 
+/* The first bytes of a path. A word of the memory is read faster than others, where it is there. */
+static bool read_head(pid_t tid, uint64_t at, char *head, size_t size)
+{
+	long word;
+
+	errno = 0;
+	word = ptrace(PTRACE_PEEKDATA, tid, at, 0);
+	if (errno)
+		return read_memory(tid, at, head, size);
+	memcpy(head, &word, size);
+	return true;
+}
+
+static bool has_head_in_proc(const struct thread *thread, uint64_t at)
+{
+	char head[6];
+	size_t size = PAGE - at % PAGE < sizeof head ? PAGE - at % PAGE : sizeof head;
+
+	return at && read_head(thread->tid, at, head, size) && may_be_in_proc(head, size);
+}
+
+/* Whether what the call in the table of calls does with its path is nothing: no more is known than its arguments. A file
+ * that is only read may be one of a control group. */
+bool path_is_elsewhere(const struct thread *thread)
+{
+	const struct call *call = thread->call;
+	int index = call->in[0].argument;
+	uint64_t at = registers_argument(&thread->made, index);
+	char path[LONGEST_PATH];
+
+	if (call->enter == enter_creat || call->enter == enter_open_at2)
+		return false;
+	if (call->enter != enter_open && call->enter != enter_open_at)
+		return !has_head_in_proc(thread, at);
+	if ((registers_argument(&thread->made, index + 1) & O_ACCMODE) != O_RDONLY || !read_path(thread->tid, at, path))
+		return false;
+	return !may_be_in_proc(path, LONGEST_PATH) && !group_may_have(path);
+}
+
 /* Where the argument with the index names a place in /proc. */
 static bool is_in_proc(struct place *place, const struct thread *thread, int index, bool has_folder)
 {
 	uint64_t at = registers_argument(&thread->made, index);
-	char path[LONGEST_PATH], head[6];
-	size_t size = PAGE - at % PAGE < sizeof head ? PAGE - at % PAGE : sizeof head;
+	char path[LONGEST_PATH];
 
-	if (!at || !read_memory(thread->tid, at, head, size) || !may_be_in_proc(head, size) || !read_path(thread->tid, at,
-		path))
+	if (!has_head_in_proc(thread, at) || !read_path(thread->tid, at, path))
 		return false;
 	return place_find(place, thread, path, folder_of(thread, index, has_folder));
 }

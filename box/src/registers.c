@@ -35,6 +35,18 @@ bool registers_write(pid_t tid, const struct registers *registers)
 	return !ptrace(PTRACE_SETREGS, tid, 0, &registers->all);
 }
 
+bool registers_read_call(pid_t tid, struct registers *registers)
+{
+	struct __ptrace_syscall_info info;
+
+	if (ptrace(PTRACE_GET_SYSCALL_INFO, tid, sizeof info, &info) <= 0 || info.op != PTRACE_SYSCALL_INFO_SECCOMP)
+		return false;
+	registers->all.orig_rax = info.seccomp.nr;
+	for (int i = 0; i < 6; i++)
+		registers_set_argument(registers, i, info.seccomp.args[i]);
+	return true;
+}
+
 /* The result may be -1 too. */
 bool registers_read_result(pid_t tid, struct registers *registers)
 {
@@ -123,6 +135,11 @@ bool registers_write(pid_t tid, const struct registers *registers)
 	struct iovec all = { (void *)&registers->all, sizeof registers->all };
 
 	return !ptrace(PTRACE_SETREGSET, tid, NT_PRSTATUS, &all);
+}
+
+bool registers_read_call(pid_t tid, struct registers *registers)
+{
+	return registers_read(tid, registers);
 }
 
 bool registers_read_result(pid_t tid, struct registers *registers)

@@ -24,6 +24,9 @@ struct registers {
 
 bool registers_read(pid_t tid, struct registers *registers);
 
+/* In a stop before a call: its number and its arguments alone, which takes less where the machine has that. */
+bool registers_read_call(pid_t tid, struct registers *registers);
+
 /* Behind a call: its result, into the registers that it was made with. A call changes no other one. */
 bool registers_read_result(pid_t tid, struct registers *registers);
 bool registers_write(pid_t tid, const struct registers *registers);

@@ -139,11 +139,21 @@ static enum onward keep_data(struct thread *thread, enum onward onward)
 	return SEE_EXIT;
 }
 
+/* Most calls that stop have a path that leads elsewhere, and who has just made one is likely to make another: its number
+ * and its arguments tell that, and to read all registers would take longer. */
+static bool is_elsewhere(struct thread *thread)
+{
+	if (!thread->call || thread->call->in[0].kind != PATH || !registers_read_call(thread->tid, &thread->made))
+		return false;
+	thread->call = call_row(&thread->made);
+	return thread->call && thread->call->in[0].kind == PATH && path_is_elsewhere(thread);
+}
+
 enum onward call_enter(struct thread *thread)
 {
 	struct registers registers;
 
-	if (!registers_read(thread->tid, &registers))
+	if (is_elsewhere(thread) || !registers_read(thread->tid, &registers))
 		return GO;
 	if (thread->has_no_exit)
 		wait_again(thread, &registers);

@@ -121,6 +121,7 @@ PLANTED = (
     ("a copy is not written", "controls.c", "\tcopied_from(link, name);\n", "", ()),
     ("who reads may write", "controls.c", "!(about.st_mode & S_IWUSR) || ", "", ()),
     ("a copy in one line too many", "controls.c", "if (part.iov_len > MOST_WRITTEN - size)", "if (part.iov_len > MOST_WRITTEN - size - 1)", ()),
+    ("an open to read is let go", "proc.c", " && !group_may_have(path)", "", ()),
     ("files are the box's", "controls.c", "is_put = !fchown(file, owner->st_uid, owner->st_gid);", "is_put = true;", ("others",)),
     ("all may remove", "controls.c", "return user == geteuid() || user == about.st_uid || about.st_mode & S_IWOTH;", "return true;", ("others",)),
 )

@@ -41,6 +41,11 @@ def programs(tell):
     tell.say("programs", f"{count} programs, {calls} calls on the table")
 
 
+# A path is taken for one that leads elsewhere than into /proc.
+LET_GO = (("an open is let go", "proc.c", "return !may_be_in_proc(path, LONGEST_PATH) && ", "return "),
+    ("a path is let go", "proc.c", "return !has_head_in_proc(thread, at);", "return true;"))
+
+
 def inside(tell):
     """Scripts whose lines are the same in a namespace of the kernel."""
     for name in ("carried", "proc", "opened", "opened by root", "nested", "all"):
@@ -55,6 +60,11 @@ def inside(tell):
             tell.fault(name, f"kernel:\n{kernel.output}\nbox:\n{box.output}")
         tell.differences(name, box)
         tell.say(name, f"{len(box.output.splitlines())} lines, {box.calls} calls")
+    words = [PYTHON, str(TESTS / "inside/proc.py")]
+    for fault in LET_GO:
+        if in_box(words, "fault-proc", 10, box=faults.build(*fault)).output == in_kernel(words).output:
+            tell.fault("proc", f"a planted fault is not found: {fault[0]}")
+    faults.clear()
 
 
 def jobs(tell):
