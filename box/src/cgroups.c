@@ -77,7 +77,8 @@ int open_target(const struct thread *thread, const char *path, int folder)
 	if (at < 0)
 		return -1;
 	file = open_path(at, path, 0, RESOLVE_CACHED);
-	if (file < 0 && errno == EAGAIN && (group_may_have(path) || is_link(at, path) || control_may_be_below(thread, path, folder)))
+	if (file < 0 && errno == EAGAIN &&
+		(group_may_have(path) || is_link(at, path) || control_may_be_below(thread, path, folder)))
 		file = open_path(at, path, 0, 0);
 	close(at);
 	return file;

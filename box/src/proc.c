@@ -234,8 +234,8 @@ static bool has_head_in_proc(const struct thread *thread, uint64_t at)
 	return at && read_head(thread->tid, at, head, size) && may_be_in_proc(head, size);
 }
 
-/* Whether what the call in the table of calls does with its path is nothing: no more is known than its arguments. A file
- * that is only read may be one of a control group. */
+/* Whether the call has nothing to do here, by its arguments alone: its path leads elsewhere than into /proc, and a file
+ * that is opened is only read, and is none of a control group. */
 bool path_is_elsewhere(const struct thread *thread)
 {
 	const struct call *call = thread->call;

@@ -139,8 +139,8 @@ static enum onward keep_data(struct thread *thread, enum onward onward)
 	return SEE_EXIT;
 }
 
-/* Most calls that stop have a path that leads elsewhere, and who has just made one is likely to make another: its number
- * and its arguments tell that, and to read all registers would take longer. */
+/* Most calls that stop have a path that leads elsewhere, and who has just made one is likely to make another. The call
+ * and its arguments tell that: to read all registers would take longer. */
 static bool is_elsewhere(struct thread *thread)
 {
 	if (!thread->call || thread->call->in[0].kind != PATH || !registers_read_call(thread->tid, &thread->made))
