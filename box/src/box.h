@@ -111,6 +111,7 @@ struct process {
 	struct memory *memory;   /* its address space */
 	bool had_threads, shares_memory; /* since its exec: others may know of a lock that it holds at its end (robust.c) */
 	bool is_hidden;          /* its memory cannot be read, which the report says once */
+	bool may_hide;           /* it has said so since its exec */
 	bool sees_proc;          /* a filter stops more calls by descriptors, since it has some of /proc (filter.c) */
 	bool writes_groups;      /* one stops its writes, since it has opened a file of a control group of the table for writing */
 	int read_filters;        /* how many filters stop its reads of signalfds (filter.c) */

@@ -99,6 +99,8 @@ const struct call calls[] = {
 	{ "prctl", { 157, 167 }, TABLE, .test = WHEN_IS(0, PR_GET_CHILD_SUBREAPER), .enter = enter_is_subreaper,
 		.note = "`PR_GET_CHILD_SUBREAPER`" },
 	{ "prctl", { 157, 167 }, KERNEL, .test = WHEN_IS(0, PR_SET_PTRACER), .in = { VALUE(1, PROCESS) }, .note = "`PR_SET_PTRACER`" },
+	{ "prctl", { 157, 167 }, KERNEL, .test = WHEN_IS(0, PR_SET_DUMPABLE), .enter = enter_dumpable,
+		.note = "`PR_SET_DUMPABLE`" },
 	{ "prctl", { 157, 167 }, REFUSED, .test = WHEN_IS(0, PR_SCHED_CORE), .note = "`PR_SCHED_CORE`" },
 
 	/* Waits: the kernel reaps, and the table is told. */

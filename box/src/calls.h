@@ -63,6 +63,7 @@ int64_t leave_setsid(struct thread *, int64_t);
 enum onward enter_fork(struct thread *, struct registers *);     /* forks.c */
 enum onward enter_clone3(struct thread *, struct registers *);   /* clone3.c */
 int64_t leave_clone3(struct thread *, int64_t);
+enum onward enter_dumpable(struct thread *, struct registers *);
 enum onward enter_unshare(struct thread *, struct registers *);
 int64_t leave_fork(struct thread *, int64_t);
 int64_t leave_unshare(struct thread *, int64_t);

@@ -52,7 +52,14 @@ static uint64_t flags_given(const struct process *caller, const struct clone_wor
 		flags &= ~(uint64_t)CLONE_PARENT_SETTID;
 	if ((flags & CLONE_VFORK) || (flags & CSIGNAL) != SIGCHLD)
 		return flags;
-	return (caller->is_hidden ? flags : flags & ~(uint64_t)CLONE_CHILD_SETTID) | CLONE_PTRACE;
+	return (caller->is_hidden || caller->may_hide ? flags : flags & ~(uint64_t)CLONE_CHILD_SETTID) | CLONE_PTRACE;
+}
+
+/* The program hides its memory from now on, or shows it. */
+enum onward enter_dumpable(struct thread *thread, struct registers *registers)
+{
+	thread->process->may_hide = registers_argument(registers, 1) != 1;
+	return GO;
 }
 
 static enum onward give_words(struct thread *thread, struct registers *registers, const struct clone_words *words)
@@ -211,6 +218,7 @@ static void inherit_state(struct process *parent, struct process *child, uint64_
 	child->may_catch_end = parent->may_catch_end;
 	child->ends_unheard = (flags & CSIGNAL) != SIGCHLD;
 	child->read_filters = parent->read_filters;
+	child->may_hide = parent->may_hide;
 	child->sees_proc = parent->sees_proc;
 	child->writes_groups = parent->writes_groups;
 	memcpy(child->filtered, parent->filtered, sizeof child->filtered);

@@ -157,7 +157,7 @@ static void executed(struct thread *thread)
 	memory_leave(process->memory);
 	process->memory = memory_new();
 	process->wants_no_zombies = process->may_catch_end = process->had_threads = process->shares_memory = false;
-	process->is_hidden = false;
+	process->is_hidden = process->may_hide = false;
 	set_options(thread);
 	process->exec_waits = true;
 	if (!process->asked)

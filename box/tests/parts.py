@@ -99,15 +99,15 @@ for name, dumpable in ((b"first", 0), (b"first", 0), (b"a second", 0), (b"third"
     if os.fork() == 0:
         libc.prctl(15, name, 0, 0, 0)
         libc.prctl(4, dumpable, 0, 0, 0)
+        own = ctypes.c_int(0)
+        if libc.syscall(56, 0x1000011, 0, 0, ctypes.c_void_p(ctypes.addressof(own)), 0) == 0:
+            os._exit(own.value == 0)
+        print("told" if os.wait()[1] == 0 else "not told", flush=True)
         ask = lambda: socket.socketpair()[0].getsockopt(socket.SOL_SOCKET, socket.SO_PEERCRED, 12)
         ask()
         thread = threading.Thread(target=ask)
         thread.start()
         thread.join()
-        own = ctypes.c_int(0)
-        if libc.syscall(56, 0x1000011, 0, 0, ctypes.c_void_p(ctypes.addressof(own)), 0) == 0:
-            os._exit(own.value == 0)
-        print("told" if os.wait()[1] == 0 else "not told", flush=True)
         os._exit(0)
     os.wait()
 """
@@ -115,7 +115,7 @@ for name, dumpable in ((b"first", 0), (b"first", 0), (b"a second", 0), (b"third"
 
 # Each child has a number in its memory: the box has written it, or the kernel where the box cannot.
 UNTOLD = (("a child is not told its number", "tracer.c", "if (thread->tid_at)", "if (false)"),
-    ("a hidden child is not told a number", "forks.c", "caller->is_hidden ? flags : flags", "flags"),
+    ("a hidden child is not told a number", "forks.c", "= registers_argument(registers, 1) != 1;", "= !registers;"),
     ("a hidden program has no threads", "clone3.c", "thread->process->is_hidden ? ENOSYS : EFAULT", "EFAULT"))
 
 
