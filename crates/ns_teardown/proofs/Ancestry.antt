@@ -16,7 +16,8 @@ use Rattle.task_table.specs.Store.{Store, one_if}
 use Rattle.task_table.specs.Collect.{collect}
 use Rattle.task_table.specs.View.{name_at, key_numbered, row_of, row_with, row_numbered, state_of}
 use Rattle.task_table.specs.Lawful.{IsLawful}
-use Rattle.task_table.specs.Whole.{IsWhole}
+use Rattle.thread_view.specs.Calling.{IsWholeWithThreads}
+use Rattle.thread_view.specs.Full.{full_state}
 use Rattle.task_table.proofs.LookUps.{named, root-number, row_at-key, rows-in}
 use Rattle.task_table.proofs.Counts.{sum-numbered}
 use Rattle.ns_teardown.proofs.Climbs.{Stops-at_top, climb-enough, climb-all, climb-mapped}
@@ -83,7 +84,7 @@ module _ (s : Store) (l : IsLawful s) where
       go None = refl
       go (Some p) = refl
 
-  module _ (w : IsWhole s) where
+  module _ (w : IsWholeWithThreads s) where
     pub tasks-up : (x y : ℕ) → IsTask s x → parent_of s.tree x ≡ Some y → IsTask s y
     tasks-up x y t e = held (task_at s.tree y) (w.parents x y e)
 
@@ -97,7 +98,7 @@ module _ (s : Store) (l : IsLawful s) where
         let ends = (w.sound.coherent.parents (row_of s k t.0) (rows-in s l k t.0 t.1)).chain in
         let a = IsIn-from_map (root s) 1 (climb (parent_of s.tree) (length (state_of s).rows) k) (subst (IsIn 1) (climb-rows (length (state_of s).rows) k t) ends) in
         let at = climb-all (parent_of s.tree) (IsTask s) tasks-up (length (state_of s).rows) k t a.0 a.1 in
-        (a.0, a.1, none (parent_of s.tree a.0) (sym (step-up a.0 at) ∙ ap (parent_number (state_of s).rows) (sym a.2) ∙ top_row (state_of s) w.sound.coherent))
+        (a.0, a.1, none (parent_of s.tree a.0) (sym (step-up a.0 at) ∙ ap (parent_number (state_of s).rows) (sym a.2) ∙ top_row (full_state s) w.sound.coherent))
       where
         none : (o : Option ℕ) → option_map (root s) o ≡ None → o ≡ None
         none None e = refl

@@ -1,44 +1,54 @@
 -- What is left in the model when a task has ended and its children have gone to another.
-use Rattle.std.proofs.Common.{◌≡◌, ◌≢◌, inl, inr, ℕ, ◌+◌, ◌-◌, ◌==◌, Bool, true, false, map, get_or, Option, Some, None, is_some, if◌then◌else◌, refl, sym, ap, subst, ◌∙◌, option_map}
+use Rattle.std.proofs.Common.{◌≡◌, ◌≢◌, inl, inr, ℕ, ◌==◌, Bool, true, false, map, get_or, Option, Some, None, is_some, if◌then◌else◌, refl, sym, ap, ◌∙◌, option_map}
 use Rattle.std.specs.Prelude.{slice_set}
 use Rattle.std.specs.Option.{option_map_or, option_eq}
 use Rattle.std.proofs.lemmas.Bool.{cases_eq, eq-eqb, ne_eqb}
 use Rattle.std.proofs.lemmas.List.{get_or-set_same, get_or-set_other}
 use Rattle.pid_types.proofs.General.{held}
+use Rattle.pid_types.specs.declared.plain.Name.{Name}
 use Rattle.pid_types.specs.declared.plain.Row.{Row}
 use Rattle.pid_types.specs.declared.plain.Life.{Life}
 use Rattle.pid_types.specs.declared.plain.Life.TheVariants.{Zombie}
 use Rattle.pid_types.specs.declared.plain.Ended.TheVariants.{Exited}
 use Rattle.pid_types.specs.State.{root_name}
-use Rattle.pid_types.specs.Names.{same_name}
-use Rattle.pid_types.specs.Exit.{row_after_exit, rows_after_exit}
+use Rattle.pid_types.specs.Names.{same_name, task_numbered}
+use Rattle.pid_types.specs.Exit.{handed_over, new_parent, row_after_exit, rows_after_exit}
 use Rattle.pid_types.specs.Outcome.{sweep}
 use Rattle.pid_numbers.specs.Numbering.{Identifier, identifier_at, number_of}
-use Rattle.pids_charge.specs.Charges.{Home, home_at, ChangesHome, home_id}
 use Rattle.task_tree.specs.declared.Task.{Task}
 use Rattle.task_tree.specs.Tree.{task_at, parent_of, lives, handed}
 use Rattle.groups_sessions.specs.Membership.{group_of, session_of}
-use Rattle.task_table.specs.Store.{Store, IsLess, HasNoThreads}
-use Rattle.task_table.proofs.Changes.{in_range}
+use Rattle.task_table.specs.Store.{Store, IsLess, IsThreaded}
 use Rattle.task_table.specs.View.{name_at, row_of, row_with, state_of}
 use Rattle.task_table.specs.Lawful.{IsLawful}
-use Rattle.task_table.specs.Whole.{IsWhole}
+use Rattle.task_table.specs.Whole.{HasParents}
+use Rattle.task_table.proofs.Changed.{KeepsNames, row-left}
+use Rattle.task_table.proofs.Changes.{in_range}
+use Rattle.task_table.proofs.InUse.{homed}
+use Rattle.task_table.proofs.Less.{number-less}
 use Rattle.task_table.proofs.LookUps.{named, same-name}
 use Rattle.task_table.proofs.Rows.{row-ext, rows-map}
-use Rattle.task_table.proofs.Changed.{IsLess-same, swept}
+use Rattle.task_table.proofs.Sweeps.{name-less}
+use Rattle.thread_view.specs.Calling.{HasProcesses, IsWholeWithThreads}
+use Rattle.thread_view.specs.Full.{full_state}
+use Rattle.thread_view.proofs.Named.{swept-full}
+use Rattle.thread_ends.specs.Ending.{EndsProcesses, KeepsHomes}
+use Rattle.thread_ends.proofs.Endings.{owners-left}
+use Rattle.thread_ends.proofs.Ended.{KeepsRoots, same-id, threads-left, marks-left}
 use Rattle.ns_teardown.specs.Heirs.{IsHeir}
 use Rattle.ns_teardown.proofs.Inheritors.{new_parent-is}
 
--- a task has ended by its exit, and its children have a new parent
+-- a process has ended by its exit with its threads, and its children have a new parent
 pub record HasEnded (s s' : Store) (key heir : ℕ) (t : Task) (status : ℕ) : Type 0 where
   pub tasks : s'.tree.tasks ≡ slice_set s.tree.tasks key (Some (record t { life = Zombie (Exited status) }))
   pub parents : (k : ℕ) → parent_of s'.tree k ≡ option_map (handed key heir) (parent_of s.tree k)
-  pub home : ChangesHome s.charges s'.charges t.home (option_map (λ (h : Home). record h { live = h.live - 1; zombies = h.zombies + 1 }) (home_at s.charges t.home))
-  pub numbering : s'.numbering ≡ s.numbering
+  pub numbers : IsLess s.numbering s'.numbering
+  pub homes : KeepsHomes s.charges s'.charges
   pub members : s'.members ≡ s.members
-  pub threads : s'.threads ≡ s.threads
+  pub threads : EndsProcesses (λ p. p == key) s.threads s'.threads
+  pub tree : HasParents s'
 
-module _ (s s' : Store) (l : IsLawful s) (l' : IsLawful s') (w : IsWhole s) (key heir : ℕ) (t : Task) (status : ℕ) (at : task_at s.tree key ≡ Some t) (e : HasEnded s s' key heir t status) where
+module _ (s s' : Store) (l : IsLawful s) (l' : IsLawful s') (w : IsWholeWithThreads s) (key heir : ℕ) (t : Task) (status : ℕ) (at : task_at s.tree key ≡ Some t) (e : HasEnded s s' key heir t status) where
   abbrev after : Row → Row
   after = row_after_exit (row_of s key t) (Some (name_at s.numbering heir)) (Exited status)
 
@@ -46,15 +56,11 @@ module _ (s s' : Store) (l : IsLawful s) (l' : IsLawful s') (w : IsWhole s) (key
   name_is : (k : ℕ) (v : Task) → task_at s.tree k ≡ Some v → same_name (name_at s.numbering k) (name_at s.numbering key) ≡ (k == key)
   name_is k v is = same-name s l k key (ap is_some (named s l k v is).1) (ap is_some (named s l key t at).1)
 
-  same_homes : (c : ℕ) → home_id s'.charges c ≡ home_id s.charges c
-  same_homes c = elim (cases_eq c t.home) [
-    | inl same ↦ ap (home_id s'.charges) same ∙ ap (λ (o : Option Home). option_map_or (λ h. h.id) o 0) e.home.here ∙ kept (home_at s.charges t.home) ∙ sym (ap (home_id s.charges) same)
-    | inr differs ↦ ap (λ (o : Option Home). option_map_or (λ h. h.id) o 0) (e.home.others c differs)
-  ]
-    where
-      kept : (o : Option Home) → option_map_or (λ h. h.id) (option_map (λ (h : Home). record h { live = h.live - 1; zombies = h.zombies + 1 }) o) 0 ≡ option_map_or (λ h. h.id) o 0
-      kept None = refl
-      kept (Some h) = refl
+  names_kept : KeepsNames s.numbering s'.numbering
+  names_kept = name-less s.numbering s'.numbering l.numbering e.numbers
+
+  roots : KeepsRoots s s'
+  roots k v is = number-less s.numbering l.numbering.full l.numbering.own s'.numbering e.numbers k v is 0
 
   parent_is : (k : ℕ) (o : Option ℕ) → parent_of s.tree k ≡ o
       → option_map (name_at s.numbering) (option_map (handed key heir) o) ≡ (if option_eq same_name (option_map (name_at s.numbering) o) (Some (name_at s.numbering key)) then Some (name_at s.numbering heir) else option_map (name_at s.numbering) o)
@@ -67,16 +73,23 @@ module _ (s s' : Store) (l : IsLawful s) (l' : IsLawful s') (w : IsWhole s) (key
       each true = refl
       each false = refl
 
+  -- the store before with the tree after: names and control groups are those before
+  abbrev with_tree : Store
+  with_tree = record s { tree = s'.tree; members = s'.members }
+
   -- a task's row after the end
-  row_is : (k : ℕ) (v : Task) (life : Life) → life ≡ (if same_name (name_at s.numbering k) (name_at s.numbering key) then Zombie (Exited status) else v.life)
+  row_is : (k : ℕ) (v : Task) (life : Life) → task_at s'.tree k ≡ Some (record v { life = life })
+      → life ≡ (if same_name (name_at s.numbering k) (name_at s.numbering key) then Zombie (Exited status) else v.life)
       → row_of s' k (record v { life = life }) ≡ after (row_of s k v)
-  row_is k v life ends =
-      row-ext (row_of s' k (record v { life = life })) (after (row_of s k v))
-      (ap (λ b. name_at b k) e.numbering)
-      (ap (λ b. option_map (name_at b) (parent_of s'.tree k)) e.numbering ∙ ap (option_map (name_at s.numbering)) (e.parents k) ∙ parent_is k (parent_of s.tree k) refl)
-      (ap (λ b. option_map_or (name_at b) (group_of s'.members k) root_name) e.numbering ∙ ap (λ ms. option_map_or (name_at s.numbering) (group_of ms k) root_name) e.members)
-      (ap (λ b. option_map_or (name_at b) (session_of s'.members k) root_name) e.numbering ∙ ap (λ ms. option_map_or (name_at s.numbering) (session_of ms k) root_name) e.members)
-      refl ends (same_homes v.home) refl refl
+  row_is k v life there ends =
+      let h = homed s' l' k (record v { life = life }) there in
+      row-left with_tree s' l' names_kept k (record v { life = life }) there refl (e.tree k) refl (same-id s.charges s'.charges e.homes v.home h.0 h.1)
+      ∙ row-ext (row_of with_tree k (record v { life = life })) (after (row_of s k v))
+      refl
+      (ap (option_map (name_at s.numbering)) (e.parents k) ∙ parent_is k (parent_of s.tree k) refl)
+      (ap (λ ms. option_map_or (name_at s.numbering) (group_of ms k) root_name) e.members)
+      (ap (λ ms. option_map_or (name_at s.numbering) (session_of ms k) root_name) e.members)
+      refl ends refl refl refl
 
   here : task_at s'.tree key ≡ Some (record t { life = Zombie (Exited status) })
   here = ap (λ ts. get_or ts key None) e.tasks ∙ get_or-set_same s.tree.tasks key (Some (record t { life = Zombie (Exited status) })) None (in_range s.tree.tasks key (ap is_some at))
@@ -88,7 +101,7 @@ module _ (s s' : Store) (l : IsLawful s) (l' : IsLawful s') (w : IsWhole s) (key
   each_row k = elim (cases_eq k key) [
     | inl same ↦
         ap (row_with s') same ∙ ap (option_map (row_of s' key)) here
-        ∙ ap Some (row_is key t (Zombie (Exited status)) (ap (λ b. if b then Zombie (Exited status) else t.life) (sym (name_is key t at ∙ eq-eqb key key refl))))
+        ∙ ap Some (row_is key t (Zombie (Exited status)) here (ap (λ b. if b then Zombie (Exited status) else t.life) (sym (name_is key t at ∙ eq-eqb key key refl))))
         ∙ sym (ap (option_map after) (ap (row_with s) same ∙ ap (option_map (row_of s key)) at))
     | inr differs ↦ ap (option_map (row_of s' k)) (others k differs) ∙ other differs (task_at s.tree k) refl
   ]
@@ -96,15 +109,32 @@ module _ (s s' : Store) (l : IsLawful s) (l' : IsLawful s') (w : IsWhole s) (key
       other : k ≢ key → (o : Option Task) → task_at s.tree k ≡ o → option_map (row_of s' k) o ≡ option_map after (option_map (row_of s k) (task_at s.tree k))
       other differs None is = sym (ap (λ o. option_map after (option_map (row_of s k) o)) is)
       other differs (Some v) is =
-          ap Some (row_is k v v.life (ap (λ b. if b then Zombie (Exited status) else v.life) (sym (name_is k v is ∙ ne_eqb k key differs))))
+          ap Some (row_is k v v.life (others k differs ∙ is) (ap (λ b. if b then Zombie (Exited status) else v.life) (sym (name_is k v is ∙ ne_eqb k key differs))))
           ∙ sym (ap (λ o. option_map after (option_map (row_of s k) o)) is)
 
+  rows_are : lives t ≡ true → ((u : Identifier) → identifier_at s.numbering key ≡ Some u → number_of s.numbering key u.space ≢ Some 1) → IsHeir s key heir
+      → rows_after_exit (full_state s) (row_of s key t) status ≡ (state_of s').rows
+  unfolding rows_after_exit new_parent task_numbered
+  rows_are live inner h =
+      ap (λ o. map (row_after_exit (row_of s key t) o (Exited status)) (state_of s).rows) (new_parent-is s l w key t at heir live inner h)
+      ∙ sym (rows-map s s' l l' e.numbers.bound (λ k v is. let u = named s' l' k v is in roots k u.0 u.1) after each_row)
+
+  -- whose process has ended is known by its name
+  abbrev its : Name → Bool
+  its name = same_name name (name_at s.numbering key)
+
+  -- the processes of the threads that are left live as before
+  pub processes-left : HasProcesses s'
+  processes-left = owners-left s s' key w.processes e.threads others
+
   -- the model's state after the end
-  pub ended : lives t ≡ true → ((u : Identifier) → identifier_at s.numbering key ≡ Some u → number_of s.numbering key u.space ≢ Some 1) → IsHeir s key heir
-      → sweep (record (state_of s) { rows = rows_after_exit (state_of s) (row_of s key t) status }) ≡ state_of s'
-  unfolding rows_after_exit
-  ended live inner h =
-      swept s.numbering l.numbering s' l' (subst HasNoThreads (sym e.threads) w.alone) (subst (IsLess s.numbering) (sym e.numbering) (IsLess-same s.numbering l.numbering)) (record (state_of s) { rows = rows_after_exit (state_of s) (row_of s key t) status })
-      (ap (λ o. map (row_after_exit (row_of s key t) o (Exited status)) (state_of s).rows) (new_parent-is s l w key t at heir live inner h)
-      ∙ sym (rows-map s s' l l' (ap (λ b. b.pid_max) e.numbering) (λ k v is. ap (λ b. number_of b k 0) e.numbering) after each_row))
-      refl refl refl (sym e.home.controls) (sym (ap (λ b. b.pid_max) e.numbering))
+  pub ended : IsThreaded s.numbering s.threads → IsThreaded s'.numbering s'.threads → lives t ≡ true
+      → ((u : Identifier) → identifier_at s.numbering key ≡ Some u → number_of s.numbering key u.space ≢ Some 1) → IsHeir s key heir
+      → sweep (handed_over (full_state s) (row_of s key t) status) ≡ full_state s'
+  unfolding handed_over
+  ended i i' live inner h =
+      swept-full s.numbering l.numbering s' l' i' e.numbers (handed_over (full_state s) (row_of s key t) status)
+      (rows_are live inner h)
+      (sym (threads-left s s' l l' i i' w.processes processes-left e.numbers.bound names_kept roots e.homes (λ p. p == key) e.threads its (λ x. its x.process) name_is (λ k x is. refl)))
+      (sym (marks-left s s' l l' i i' w.processes processes-left e.numbers.bound names_kept roots e.homes (λ p. p == key) e.threads its (λ x. its x.process) name_is (λ k x is. refl)))
+      refl (sym e.homes.controls) (sym e.numbers.bound)

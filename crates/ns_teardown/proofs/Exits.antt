@@ -7,15 +7,22 @@ use Rattle.pid_types.specs.declared.reply.Reply.TheVariants.{Done}
 use Rattle.pid_types.specs.declared.reply.Refusal.TheVariants.{NoCaller, RootInit}
 use Rattle.pid_types.specs.State.{State}
 use Rattle.pid_types.specs.Names.{root_number}
-use Rattle.pid_types.specs.Threads.{caller_of}
+use Rattle.pid_types.specs.Threads.{caller_of, running}
 use Rattle.pid_types.specs.Outcome.{Outcome, refused, changed, for_found, refuse_if}
-use Rattle.pid_types.specs.Exit.{is_init, handed_over, fall, exit}
+use Rattle.pid_types.specs.Exit.{ends, is_init, handed_over, fall, exit}
+use Rattle.pid_types.specs.Leave.{leave, without_caller}
+use Rattle.pid_types.specs.Step.{step}
+use Rattle.pid_types.specs.declared.call.Call.TheVariants.{Exit}
 use Rattle.pid_numbers.specs.Numbering.{id_at, number_of}
 use Rattle.task_tree.specs.declared.Task.{Task}
 use Rattle.task_tree.specs.Tree.{task_at}
 use Rattle.task_table.specs.Store.{Store}
 use Rattle.task_table.specs.View.{name_at, row_of, state_of}
 use Rattle.task_table.specs.Lawful.{IsLawful}
+use Rattle.task_table.specs.Whole.{HasParents}
+use Rattle.thread_view.specs.Calling.{HasProcesses, IsWholeWithThreads}
+use Rattle.thread_view.specs.Full.{full_state}
+use Rattle.thread_view.proofs.StaysWhole.{stays-whole}
 use Rattle.task_table.proofs.Keys.{number-is_key}
 use Rattle.task_table.proofs.LookUps.{named, root-number}
 
@@ -61,3 +68,16 @@ module _ (state : State) (n : ℕ) (status : ℕ) (row : Row) (found : caller_of
       go : (b : Bool) → is_init state row ≡ b → Done ≡ (exit state n status).reply
       go true init = sym (ap (λ (o : Outcome). o.reply) (exit-falls top init))
       go false init = sym (ap (λ (o : Outcome). o.reply) (exit-ends top init))
+
+-- what an exit comes to is whole
+pub whole-after : (s s' : Store) (n status : ℕ) → IsWholeWithThreads s → full_state s' ≡ (exit (full_state s) n status).state → HasParents s' → HasProcesses s' → IsWholeWithThreads s'
+unfolding step
+whole-after s s' n status = stays-whole s s' (Exit n status) refl
+
+-- the leave of the last thread that runs is an exit
+pub leave-last : (state : State) (n status : ℕ) (row : Row) → caller_of state n ≡ Some row → (running state row == 1) ≡ true → leave state n status ≡ exit state n status
+unfolding leave exit
+leave-last state n status row found last =
+    ap (λ o. for_found state o NoCaller (λ caller. if running state caller == 1 then ends state status caller else changed (without_caller state n caller) Done)) found
+    ∙ ap (λ (b : Bool). if b then ends state status row else changed (without_caller state n row) Done) last
+    ∙ sym (ap (λ o. for_found state o NoCaller (ends state status)) found)

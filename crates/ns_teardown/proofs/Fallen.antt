@@ -1,5 +1,5 @@
 -- What is left in the model when a namespace has fallen.
-use Rattle.std.proofs.Common.{◌≡◌, ◌≢◌, ◌⊎◌, inl, inr, ℕ, ◌==◌, ◌&&◌, ◌||◌, Bool, true, false, not, List, [], ◌∷◌, map, slice_get, Option, Some, None, is_some, if◌then◌else◌, refl, sym, ap, subst, ◌∙◌, option_map, option_and_then, unwrap_or}
+use Rattle.std.proofs.Common.{◌≡◌, ◌≢◌, ◌⊎◌, inl, inr, ℕ, ◌==◌, ◌&&◌, ◌||◌, Bool, true, false, not, List, [], ◌∷◌, map, slice_get, Option, Some, None, is_some, if◌then◌else◌, refl, sym, ap, ◌∙◌, option_map, option_and_then, unwrap_or}
 use Rattle.std.specs.Prelude.{reverse, slice_index_or}
 use Rattle.std.specs.Option.{option_map_or}
 use Rattle.std.specs.List.{AllByRecursion}
@@ -14,24 +14,32 @@ use Rattle.pid_types.specs.declared.plain.Ended.TheVariants.{Exited, Killed}
 use Rattle.pid_types.specs.Chains.{contains}
 use Rattle.pid_types.specs.State.{root_name}
 use Rattle.pid_types.specs.Names.{same_name, is_within, is_member as is_visible}
-use Rattle.pid_types.specs.Exit.{has_parent_within as parent_visible, goes_in_fall, row_after_fall, rows_after_fall, fallen_below, fall}
+use Rattle.pid_types.specs.Exit.{has_parent_within as parent_visible, goes_in_fall, is_of, row_after_fall, rows_after_fall, fallen_below, fall}
 use Rattle.pid_types.specs.Outcome.{sweep}
 use Rattle.pid_numbers.specs.Numbering.{Numbering, Namespace, Identifier, namespace_at, id_at, identifier_at, number_of, path_at, has_fallen_at, fallen_within}
-use Rattle.pids_charge.specs.Charges.{Home, home_id}
+use Rattle.pids_charge.specs.Charges.{home_id}
+use Rattle.process_threads.specs.declared.Thread.{Thread}
+use Rattle.process_threads.specs.Threads.{thread_with}
 use Rattle.task_tree.specs.declared.Task.{Task}
-use Rattle.task_tree.specs.Tree.{task_at, parent_of, lives}
-use Rattle.task_table.specs.Store.{Store, IsLess, HasNoThreads}
+use Rattle.task_tree.specs.Tree.{task_at, parent_of, has_live, lives}
+use Rattle.task_table.specs.Store.{Store, IsLess, IsThreaded}
 use Rattle.task_table.proofs.Less.{number-less}
 use Rattle.task_table.specs.View.{name_of, name_at, parent_id, space_of, spaces_of, row_of, row_with, state_of}
 use Rattle.task_table.specs.Lawful.{HasLaws, IsLawful}
-use Rattle.task_table.specs.Whole.{HasParents, IsWhole}
+use Rattle.task_table.specs.Whole.{HasParents}
+use Rattle.thread_view.specs.Calling.{HasProcesses, IsWholeWithThreads}
+use Rattle.thread_view.specs.Full.{full_state, thread_row_of}
+use Rattle.thread_view.proofs.Named.{swept-full}
+use Rattle.thread_view.proofs.Threads.{threads-in}
+use Rattle.thread_ends.specs.Ending.{EndsProcesses, KeepsHomes, unless_ends}
+use Rattle.thread_ends.proofs.Ended.{KeepsRoots, same-id, threads-left, marks-left}
 use Rattle.task_table.proofs.Keys.{number-is_key}
 use Rattle.task_table.proofs.LookUps.{named, same-name, space-id}
 use Rattle.task_table.proofs.InUse.{homed}
 use Rattle.task_table.proofs.Rows.{rows-both}
 use Rattle.task_table.proofs.Sweeps.{name-less}
-use Rattle.task_table.proofs.Changed.{row-left, swept}
-use Rattle.ns_teardown.specs.Fall.{Slot, slot_at, is_visible_in, has_parent_inside, member_after_fall, slot_after_fall, life_after_fall, FallsWithin, KeepsHomes}
+use Rattle.task_table.proofs.Changed.{KeepsNames, row-left}
+use Rattle.ns_teardown.specs.Fall.{Slot, slot_at, is_visible_in, has_parent_inside, member_after_fall, slot_after_fall, life_after_fall, FallsWithin}
 use Rattle.ns_teardown.proofs.Marked.{path-marked, number-marked, outer-parent}
 use Rattle.ns_teardown.proofs.Within.{within-is, member-is}
 use Rattle.ns_teardown.proofs.Good.{good-tasks}
@@ -94,9 +102,9 @@ pub record HasFallen (s s' : Store) (space init status : ℕ) : Type 0 where
   pub less : IsLess marked s'.numbering
   pub homes : KeepsHomes s.charges s'.charges
   pub parents : HasParents s'
-  pub threads : s'.threads ≡ s.threads
+  pub threads : EndsProcesses (is_visible_in s.numbering space) s.threads s'.threads
 
-module _ (s s' : Store) (l : IsLawful s) (l' : IsLawful s') (w : IsWhole s) (init : ℕ) (t : Task) (status : ℕ) (at : task_at s.tree init ≡ Some t) (u : Identifier) (is : identifier_at s.numbering init ≡ Some u)
+module _ (s s' : Store) (l : IsLawful s) (l' : IsLawful s') (w : IsWholeWithThreads s) (init : ℕ) (t : Task) (status : ℕ) (at : task_at s.tree init ≡ Some t) (u : Identifier) (is : identifier_at s.numbering init ≡ Some u)
     (first : number_of s.numbering init u.space ≡ Some 1) (f : HasFallen s s' u.space init status) where
   abbrev row : Row
   row = row_of s init t
@@ -144,14 +152,11 @@ module _ (s s' : Store) (l : IsLawful s) (l' : IsLawful s') (w : IsWhole s) (ini
           ∙ sym (ap (λ b. is_visible_in s.numbering u.space k && b) (ap (has_parent_inside s u.space) same ∙ outer-parent s l (good-tasks s l w) init u is first))
 
   -- who is left keeps the name, and the control group
-  names_kept : (k : ℕ) (v : Identifier) → identifier_at s'.numbering k ≡ Some v → name_at s'.numbering k ≡ name_at s.numbering k
+  names_kept : KeepsNames s.numbering s'.numbering
   names_kept k v e = name-less f.marked s'.numbering f.laws f.less k v e ∙ name-same s.numbering f.marked l.numbering u.space id own f.falls k
 
   home_kept : (k : ℕ) (v : Task) → task_at s'.tree k ≡ Some v → home_id s'.charges v.home ≡ home_id s.charges v.home
-  home_kept k v e =
-      let h = homed s' l' k v e in
-      let g = f.homes.ids v.home h.0 h.1 in
-      ap (λ (o : Option Home). option_map_or (λ h. h.id) o 0) h.1 ∙ sym g.2 ∙ sym (ap (λ (o : Option Home). option_map_or (λ h. h.id) o 0) g.1)
+  home_kept k v e = let h = homed s' l' k v e in same-id s.charges s'.charges f.homes v.home h.0 h.1
 
   -- a task that is left, with the life that it has
   left : (k : ℕ) (v : Task) (life : Life) → slot_at s' k ≡ record (slot_at s k) { task = Some (record v { life = life }) } → row_of s' k (record v { life = life }) ≡ record (row_of s k v) { life = life }
@@ -223,15 +228,52 @@ module _ (s s' : Store) (l : IsLawful s) (l' : IsLawful s') (w : IsWhole s) (ini
           ∙ sym (ap (λ o. option_map after (option_filter stays (option_map (row_of s k) o))) e)
       go (Some v) e = row_here k v e ∙ sym (ap (λ o. option_map after (option_filter stays (option_map (row_of s k) o))) e)
 
-  roots : (k : ℕ) (v : Task) → task_at s'.tree k ≡ Some v → number_of s'.numbering k 0 ≡ number_of s.numbering k 0
-  roots k v e =
-      let x = named s' l' k v e in
-      number-less f.marked f.laws.full f.laws.own s'.numbering f.less k x.0 x.1 0 ∙ number-marked u.space s.numbering f.marked f.falls k 0
+  roots : KeepsRoots s s'
+  roots k v e = number-less f.marked f.laws.full f.laws.own s'.numbering f.less k v e 0 ∙ number-marked u.space s.numbering f.marked f.falls k 0
+
+  -- the processes of the threads that are left live as before
+  pub processes-after : HasProcesses s'
+  processes-after k v e = go (thread_with s.threads k) refl
+    where
+      live : (p : ℕ) → is_visible_in s.numbering u.space p ≡ false → has_live (task_at s'.tree p) ≡ has_live (task_at s.tree p)
+      live p outside =
+          ap (λ (x : Slot). has_live x.task) (f.slots p)
+          ∙ ap (λ m. has_live (if m then member_after_fall (has_parent_inside s u.space p) (p == init) status (slot_at s p) else slot_at s p).task) outside
+
+      kept : (x : Thread) → thread_with s.threads k ≡ Some x → (b : Bool) → is_visible_in s.numbering u.space x.process ≡ b → has_live (task_at s'.tree v.process) ≡ true
+      kept x was true inside =
+          absurd (let z : None ≡ Some v = sym (f.threads.threads k ∙ ap (unless_ends (is_visible_in s.numbering u.space)) was ∙ ap (λ b. if b then None else Some x) inside) ∙ e in cc)
+      kept x was false outside =
+          let one : Some x ≡ Some v = sym (f.threads.threads k ∙ ap (unless_ends (is_visible_in s.numbering u.space)) was ∙ ap (λ b. if b then None else Some x) outside) ∙ e in
+          let process : x.process ≡ v.process = ap (λ o. option_map_or (λ y. y.process) o x.process) one in
+          ap (λ p. has_live (task_at s'.tree p)) (sym process) ∙ live x.process outside ∙ w.processes k x was
+
+      go : (o : Option Thread) → thread_with s.threads k ≡ o → has_live (task_at s'.tree v.process) ≡ true
+      go None was = absurd (let z : None ≡ Some v = sym (f.threads.threads k ∙ ap (unless_ends (is_visible_in s.numbering u.space)) was) ∙ e in cc)
+      go (Some x) was = kept x was (is_visible_in s.numbering u.space x.process) refl
+
+  -- whose process is a member is known by its name
+  abbrev its : Name → Bool
+  its = is_of (state_of s).spaces id
+
+  its_is : (k : ℕ) (v : Task) → task_at s.tree k ≡ Some v → its (name_at s.numbering k) ≡ is_visible_in s.numbering u.space k
+  its_is k v e =
+      let x = named s l k v e in
+      within-is s.numbering l.numbering x.0.space (name_at s.numbering k).space u.space id (space-id s l k x.0 x.1) own ∙ sym (member-is s.numbering l.numbering k u.space x.0 x.1)
+
+  -- a thread is in the namespace of its process
+  thread_is : IsThreaded s.numbering s.threads → (k : ℕ) (x : Thread) → thread_with s.threads k ≡ Some x → its (name_at s.numbering k) ≡ its (name_at s.numbering x.process)
+  thread_is i k x e =
+      let g = (w.sound.coherent.threads (thread_row_of s k x) (threads-in s l i k x e)).process in
+      ap (λ n. is_within (state_of s).spaces n id) (g.4 ∙ ap (λ (a : Name). a.space) g.2)
 
   -- the model's state after the fall
-  pub fallen : sweep (fall (state_of s) row status) ≡ state_of s'
+  pub fallen : IsThreaded s.numbering s.threads → IsThreaded s'.numbering s'.threads → sweep (fall (full_state s) row status) ≡ full_state s'
   unfolding fall rows_after_fall
-  fallen =
+  fallen i i' =
       let bound : s'.numbering.pid_max ≡ s.numbering.pid_max = f.less.bound ∙ f.falls.bound in
-      swept f.marked f.laws s' l' (subst HasNoThreads (sym f.threads) w.alone) f.less (fall (state_of s) row status) (sym (rows-both s s' l l' bound roots after stays each_row))
-      refl refl (spaces-after s.numbering f.marked l.numbering u.space id own f.falls) (sym f.homes.controls) (sym bound)
+      swept-full f.marked f.laws s' l' i' f.less (fall (full_state s) row status)
+      (sym (rows-both s s' l l' bound (λ k v e. let x = named s' l' k v e in roots k x.0 x.1) after stays each_row))
+      (sym (threads-left s s' l l' i i' w.processes processes-after bound names_kept roots f.homes (is_visible_in s.numbering u.space) f.threads its (λ x. its x.name) its_is (thread_is i)))
+      (sym (marks-left s s' l l' i i' w.processes processes-after bound names_kept roots f.homes (is_visible_in s.numbering u.space) f.threads its (λ x. its x.name) its_is (thread_is i)))
+      (spaces-after s.numbering f.marked l.numbering u.space id own f.falls) (sym f.homes.controls) (sym bound)

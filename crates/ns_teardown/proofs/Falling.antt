@@ -1,16 +1,20 @@
 -- The walk of the fall, one member after the other.
 use Rattle.std.proofs.Common.{◌≡◌, ◌≢◌, ◌⊎◌, inl, inr, ℕ, ◌+◌, ◌<◌, ◌≤◌, ◌==◌, ◌||◌, Bool, true, false, not, nat_lt, Option, Some, None, is_some, is_none, IsSome, if◌then◌else◌, refl, sym, ap, ◌∙◌, arith}
 use Rattle.std.specs.Option.{option_map_or}
-use Rattle.std.proofs.lemmas.Bool.{cases_eq}
+use Rattle.std.proofs.lemmas.Bool.{cases_eq, eq-eqb, ne_eqb}
 use Rattle.pid_types.specs.declared.call.Kind.TheVariants.{Task as AsTask}
 use Rattle.pid_numbers.specs.Numbering.{Identifier, identifier_at, number_of, uses, is_used_as, IsNumberUsedAs}
 use Rattle.task_tree.specs.declared.Task.{Task}
-use Rattle.task_tree.specs.Tree.{task_at, parent_of, lives}
+use Rattle.task_tree.specs.Tree.{task_at, parent_of, has_live, lives}
 use Rattle.groups_sessions.specs.Membership.{Membership, membership_at}
 use Rattle.task_table.specs.Store.{Store, IsStore, IsLess, one_if}
 use Rattle.task_table.proofs.Less as less
 use Rattle.task_table.specs.Lawful.{IsLawful}
 use Rattle.task_table.specs.Whole.{HasParents}
+use Rattle.task_table.proofs.LookUps.{live-there}
+use Rattle.thread_view.specs.Calling.{HasProcesses}
+use Rattle.thread_ends.specs.Ending.{EndsProcesses}
+use Rattle.thread_ends.proofs.Endings.{ends-both, ends-none, ends-same}
 use Rattle.ns_teardown.specs.Fall.{Slot, slot_at, vacant, is_visible_in, has_parent_inside, member_after_fall, slot_after_fall, parent_falls_at, is_passed, slot_midway}
 use Rattle.ns_teardown.proofs.Visible as visible
 
@@ -80,6 +84,14 @@ module _ (s : Store) (law : IsLawful s) (parents : HasParents s) (space init sta
       go None e = sym (midway 0 k false (unseen 0 k e))
       go (Some n) e = sym (midway 0 k false (passed 0 k n e false (lt_no n 0 (omega arith))))
 
+  -- and no thread is gone
+  pub threads-first : EndsProcesses (is_passed s.numbering space 0) s.threads s.threads
+  threads-first = ends-none s.threads (is_passed s.numbering space 0) (λ p. go p (number_of s.numbering p space) refl)
+    where
+      go : (p : ℕ) (o : Option ℕ) → number_of s.numbering p space ≡ o → is_passed s.numbering space 0 p ≡ false
+      go p None e = unseen 0 p e
+      go p (Some n) e = passed 0 p n e false (lt_no n 0 (omega arith))
+
   module _ (t : Store) (v : IsStore t) (l : IsLess s.numbering t.numbering) (cursor : ℕ) (slots : (k : ℕ) → slot_at t k ≡ slot_midway s space init status cursor k) where
     -- who is left has the numbers that it had
     pub number-same : (k n : ℕ) → IsSome (task_at t.tree k) → number_of t.numbering k n ≡ number_of s.numbering k n
@@ -134,6 +146,18 @@ module _ (s : Store) (law : IsLawful s) (parents : HasParents s) (space init sta
             last : (x : Option Task) → task_at s.tree k ≡ x → cursor ≤ n → slot_at t k ≡ slot_after_fall s space init status k
             last None is from = as-was k (passed cursor k n e false (lt_no n cursor from)) ∙ after-none k is
             last (Some x) is from = absurd (none n from (still-used k n e from (ap is_some is)))
+
+    -- and so the threads of all members are gone
+    pub threads-passed : ((m : ℕ) → cursor ≤ m → IsNumberUsedAs t.numbering AsTask space m → ⊥) → HasProcesses s → EndsProcesses (is_passed s.numbering space cursor) s.threads t.threads
+        → EndsProcesses (is_visible_in s.numbering space) s.threads t.threads
+    threads-passed none owners e = ends-same s law.agree owners t.threads (is_passed s.numbering space cursor) (is_visible_in s.numbering space) (λ p live. at p live (number_of s.numbering p space) refl) e
+      where
+        at : (p : ℕ) → has_live (task_at s.tree p) ≡ true → (o : Option ℕ) → number_of s.numbering p space ≡ o → is_visible_in s.numbering space p ≡ is_passed s.numbering space cursor p
+        at p live None is = ap is_some is ∙ sym (unseen cursor p is)
+        at p live (Some n) is = elim (below_or n cursor) [
+          | inl below ↦ ap is_some is ∙ sym (passed cursor p n is true (lt_yes n cursor below))
+          | inr from ↦ absurd (let v = live-there (task_at s.tree p) live in none n from (still-used p n is from (ap is_some v.1)))
+        ]
 
     module _ (key number : ℕ) (from : cursor ≤ number) (here : number_of t.numbering key space ≡ Some number) (there : IsSome (task_at t.tree key)) where
       was-here : number_of s.numbering key space ≡ Some number
@@ -190,3 +214,39 @@ module _ (s : Store) (law : IsLawful s) (parents : HasParents s) (space init sta
       -- and lives, if it is a live init
       pub still-live : option_map_or lives (task_at s.tree init) false ≡ true → key ≡ init → option_map_or lives (task_at t.tree key) false ≡ true
       still-live live same = ap (λ o. option_map_or lives o false) (task-same key next-same ∙ ap (task_at s.tree) same) ∙ live
+
+      -- and so have the threads of one process more
+      pub threads-step : ((m : ℕ) → cursor ≤ m → IsNumberUsedAs t.numbering AsTask space m → number ≤ m) → (owners : HasProcesses s) → (t' : Store)
+          → EndsProcesses (is_passed s.numbering space cursor) s.threads t.threads → EndsProcesses (λ p. p == key) t.threads t'.threads
+          → EndsProcesses (is_passed s.numbering space (number + 1)) s.threads t'.threads
+      threads-step least owners t' before now = ends-both s law.agree owners t.threads t'.threads (is_passed s.numbering space cursor) (λ p. p == key) (is_passed s.numbering space (number + 1)) both before now
+        where
+          both : (p : ℕ) → has_live (task_at s.tree p) ≡ true → is_passed s.numbering space (number + 1) p ≡ (is_passed s.numbering space cursor p || (p == key))
+          both p live = elim (cases_eq p key) [
+            | inl same ↦
+                ap (is_passed s.numbering space (number + 1)) same ∙ passed (number + 1) key number was-here true (lt_yes number (number + 1) (omega arith))
+                ∙ sym (ap (λ b. is_passed s.numbering space cursor p || b) (eq-eqb p key same) ∙ or_true (is_passed s.numbering space cursor p))
+            | inr differs ↦ other differs (number_of s.numbering p space) refl ∙ sym (ap (λ b. is_passed s.numbering space cursor p || b) (ne_eqb p key differs) ∙ or_false (is_passed s.numbering space cursor p))
+          ]
+            where
+              or_true : (b : Bool) → (b || true) ≡ true
+              or_true true = refl
+              or_true false = refl
+
+              or_false : (b : Bool) → (b || false) ≡ b
+              or_false true = refl
+              or_false false = refl
+
+              other : p ≢ key → (o : Option ℕ) → number_of s.numbering p space ≡ o → is_passed s.numbering space (number + 1) p ≡ is_passed s.numbering space cursor p
+              other differs None e = unseen (number + 1) p e ∙ sym (unseen cursor p e)
+              other differs (Some m) e = elim (below_or m cursor) [
+                | inl below ↦ passed (number + 1) p m e true (lt_yes m (number + 1) (omega (arith, below, from))) ∙ sym (passed cursor p m e true (lt_yes m cursor below))
+                | inr above ↦ elim (below_or m (number + 1)) [
+                  | inr after ↦ passed (number + 1) p m e false (lt_no m (number + 1) after) ∙ sym (passed cursor p m e false (lt_no m cursor above))
+                  | inl upto ↦
+                      let v = live-there (task_at s.tree p) live in
+                      let le : number ≤ m = least m above (still-used p m e above (ap is_some v.1)) in
+                      let same : m ≡ number = omega (arith, le, upto) in
+                      absurd (differs (law.numbering.distinct p key space number (e ∙ ap Some same) was-here))
+                ]
+              ]

@@ -15,14 +15,14 @@ use Rattle.task_tree.specs.Tree.{task_at, parent_of, lives}
 use Rattle.task_table.specs.Store.{Store}
 use Rattle.task_table.specs.View.{name_at, row_of, space_of, state_of}
 use Rattle.task_table.specs.Lawful.{IsLawful}
-use Rattle.task_table.specs.Whole.{IsWhole}
+use Rattle.thread_view.specs.Calling.{IsWholeWithThreads}
 use Rattle.task_table.proofs.Keys.{number-is_key, space_at-key}
 use Rattle.task_table.proofs.LookUps.{named, space-id, in-rows, rows-in}
 use Rattle.ns_teardown.specs.GoodTasks.{HasGoodTasks, HasInit}
 use Rattle.ns_teardown.proofs.Within.{within-is}
 use Rattle.ns_teardown.proofs.Ancestry.{IsTask, few-rows, top-of, climb-long}
 
-module _ (s : Store) (l : IsLawful s) (w : IsWhole s) where
+module _ (s : Store) (l : IsLawful s) (w : IsWholeWithThreads s) where
   -- who has a parent is a task
   tasked : (k p : ℕ) → parent_of s.tree k ≡ Some p → IsTask s k
   tasked k p child = go (task_at s.tree k) refl

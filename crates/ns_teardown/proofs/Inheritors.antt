@@ -15,7 +15,7 @@ use Rattle.task_tree.specs.Tree.{task_at, parent_of, lives}
 use Rattle.task_table.specs.Store.{Store}
 use Rattle.task_table.specs.View.{name_at, row_of, state_of}
 use Rattle.task_table.specs.Lawful.{IsLawful}
-use Rattle.task_table.specs.Whole.{IsWhole}
+use Rattle.thread_view.specs.Calling.{IsWholeWithThreads}
 use Rattle.task_table.proofs.LookUps.{named, space-id, task_at-key}
 use Rattle.ns_teardown.specs.Heirs.{IsHeir, ancestor_keys, is_subreaper_of, nearest_subreaper_key}
 use Rattle.ns_teardown.proofs.NewParents.{heir-beside}
@@ -32,7 +32,7 @@ in-drop : (x : ℕ) (xs : List ℕ) → IsIn x (drop 1 xs) → IsIn x xs
 in-drop x [] i = i
 in-drop x (y ∷ xs) i = inr i
 
-module _ (s : Store) (l : IsLawful s) (w : IsWhole s) (key : ℕ) (t : Task) (at : task_at s.tree key ≡ Some t) where
+module _ (s : Store) (l : IsLawful s) (w : IsWholeWithThreads s) (key : ℕ) (t : Task) (at : task_at s.tree key ≡ Some t) where
   -- the ancestors by root numbers are those by keys
   ancestors-rows : ancestors_in (state_of s).rows (row_of s key t) ≡ map (root s) (ancestor_keys s key)
   ancestors-rows =

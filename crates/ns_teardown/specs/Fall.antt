@@ -1,6 +1,7 @@
 -- What the fall of a namespace leaves, by key.
-use Rattle.std.specs.Prelude.{◌≡◌, ℕ, ◌==◌, ◌||◌, Bool, true, false, nat_lt, Option, Some, None, option_map, is_some, is_none, IsSome, if◌then◌else◌}
+use Rattle.std.specs.Prelude.{◌≡◌, ◌≢◌, ℕ, ◌==◌, ◌||◌, Bool, false, nat_lt, Option, None, option_map, is_some, is_none, IsSome, if◌then◌else◌}
 use Rattle.std.specs.Option.{option_map_or}
+use Rattle.pid_types.specs.Controls.{control_at}
 use Rattle.pid_types.specs.declared.plain.Life.{Life}
 use Rattle.pid_types.specs.declared.plain.Life.TheVariants.{Zombie}
 use Rattle.pid_types.specs.declared.plain.Ended.TheVariants.{Exited, Killed}
@@ -8,7 +9,6 @@ use Rattle.pid_numbers.specs.Numbering.{Numbering, namespace_at, number_of, fall
 use Rattle.task_tree.specs.declared.Task.{Task}
 use Rattle.task_tree.specs.Tree.{task_at, parent_of, lives}
 use Rattle.groups_sessions.specs.Membership.{Membership, membership_at}
-use Rattle.pids_charge.specs.Charges.{Charges, Home, home_at}
 use Rattle.task_table.specs.Store.{Store}
 
 -- what is at a key: the task, its parent, and its group and session
@@ -19,6 +19,14 @@ pub record Slot : Type 0 where
 
 abbrev pub slot_at : Store → ℕ → Slot
 slot_at s k = record { task = task_at s.tree k; parent = parent_of s.tree k; membership = membership_at s.members k }
+
+-- what is at other keys than this one is as it was
+abbrev pub KeepsOthers : ℕ → Store → Store → Type 0
+KeepsOthers key old new = (k : ℕ) → k ≢ key → slot_at new k ≡ slot_at old k
+
+-- there is a root control group
+abbrev pub HasRootGroup : Store → Type 0
+HasRootGroup s = IsSome (control_at s.charges.controls 0)
 
 -- a key without a task
 abbrev pub vacant : Slot
@@ -56,12 +64,6 @@ pub record FallsWithin (space : ℕ) (old new : Numbering) : Type 0 where
   pub order : new.order ≡ old.order
   pub namespaces : (s : ℕ) → namespace_at new s ≡ option_map (fallen_within space) (namespace_at old s)
   pub bound : new.pid_max ≡ old.pid_max
-
--- the control groups are the same, and the keys that are left are of the same ones. A control group's own key is left
-pub record KeepsHomes (old new : Charges) : Type 0 where
-  pub controls : new.controls ≡ old.controls
-  pub ids : (c : ℕ) (h : Home) → home_at new c ≡ Some h → (g : Home) × (home_at old c ≡ Some g) × (g.id ≡ h.id) × (g.stands ≡ h.stands)
-  pub standing : (c : ℕ) (g : Home) → home_at old c ≡ Some g → g.stands ≡ true → IsSome (home_at new c)
 
 -- whether the task goes with its parent, read while others have gone already: the parent is a member of the namespace, or was one
 abbrev pub parent_falls_at : Store → ℕ → ℕ → Bool

@@ -4,13 +4,17 @@
 
 ghost use Rattle.std.specs.{Prelude.{◌≡◌, ◌==◌, Some, true, false}, Option.{option_eq}};
 ghost use Rattle.{
-  pid_types.specs.{Outcome.{sweep}, Exit.{exit as exit_of, fall as fall_of, handed_over}, Short.{reply_of}},
+  pid_types.specs.{Outcome.{sweep}, Exit.{exit as exit_of, fall as fall_of, handed_over}, Leave.{leave as leave_of}},
+  pid_types.specs.Short.{reply_of},
   pid_numbers.specs.Numbering.{number_of},
   task_tree.specs.Tree.{task_at, lives},
-  task_table.specs.{View.{row_of, state_of}, Whole.{HasParents, IsWhole}, Found.{HasOwnSpace}},
+  task_table.specs.{Found.{HasOwnSpace}, View.{row_of}, Whole.{HasParents}},
+  thread_view.specs.{Full.{full_state}, Calling.{HasProcesses, IsWholeWithThreads}},
+  thread_ends.specs.Ending.{StaysAlone},
   ns_teardown.specs.GoodTasks.{IsNoInit, IsInnerInit},
 };
 
+mod ends;
 mod heirs;
 mod members;
 mod teardown;
@@ -18,8 +22,10 @@ mod teardown;
 use pid_types::keys::{Pid, SpaceKey, TaskKey};
 use pid_types::reply::{Refusal, ShortReply};
 use task_table::Tasks;
-use task_table::view::{Found, find_live, laws};
+use task_table::view::{Found, laws};
 pub use teardown::{fall, new_parent};
+use thread_ends::leave_beside;
+use thread_view::find_live;
 
 /// Whether the task has number 1 in the namespace.
 fn is_first(store: &Tasks, space: SpaceKey, key: TaskKey) -> bool
@@ -37,59 +43,67 @@ fn is_inner_init(store: &Tasks, space: SpaceKey, key: TaskKey) -> bool
     space != 0 && is_first(store, space, key)
 }
 
-/// A live task that is no init ends, and its children have a new parent.
+/// A live process that is no init ends with all its threads, and its children have a new parent.
 fn end_task(store: &mut Tasks, found: &Found, status: u8)
-    requires whole { IsWhole store.old }
+    requires whole { IsWholeWithThreads store.old }
     requires there { task_at store.old.tree found.now.key ≡ Some found.now.task }
     requires live { lives found.now.task ≡ true }
     requires own { HasOwnSpace store.old found.now }
     requires inner { IsNoInit store.old found.now }
-    ensures state { state_of store.new
-        ≡ sweep (handed_over (state_of store.old) (row_of store.old found.now.key found.now.task) status) }
+    ensures state { full_state store.new
+        ≡ sweep (handed_over (full_state store.old) (row_of store.old found.now.key found.now.task) status) }
     ensures parents { HasParents store.new }
-    ensures threads { store.new.threads ≡ store.old.threads }
+    ensures processes { HasProcesses store.new }
+    ensures alone { StaysAlone store.old store.new }
 {
     laws(store);
+    store.thread_laws();
     teardown::exit(store, found, status);
     laws(store);
+    store.thread_laws();
 }
 
 /// The live init of a namespace other than the root ends, and the namespace falls.
 fn end_init(store: &mut Tasks, init: &Found, status: u8)
-    requires whole { IsWhole store.old }
+    requires whole { IsWholeWithThreads store.old }
     requires there { task_at store.old.tree init.now.key ≡ Some init.now.task }
     requires live { lives init.now.task ≡ true }
     requires own { HasOwnSpace store.old init.now }
     requires top { IsInnerInit store.old init.now }
-    ensures state { state_of store.new
-        ≡ sweep (fall_of (state_of store.old) (row_of store.old init.now.key init.now.task) status) }
+    ensures state { full_state store.new
+        ≡ sweep (fall_of (full_state store.old) (row_of store.old init.now.key init.now.task) status) }
     ensures parents { HasParents store.new }
-    ensures threads { store.new.threads ≡ store.old.threads }
+    ensures processes { HasProcesses store.new }
+    ensures alone { StaysAlone store.old store.new }
 {
     laws(store);
+    store.thread_laws();
     teardown::fall(store, init, status);
     laws(store);
+    store.thread_laws();
 }
 
-/// `_exit(2)`: the caller is a zombie until its parent waits, and its children go to its nearest ancestor
-/// that is a subreaper in its own namespace, or else to the init there (`PR_SET_CHILD_SUBREAPER(2const)`).
+/// `_exit(2)` as the C library has it, which is `exit_group(2)`, by any thread: all threads of the process end, and
+/// it is a zombie until its parent waits. Its children go to its nearest ancestor that is a subreaper in its own
+/// namespace, or else to the init there (`PR_SET_CHILD_SUBREAPER(2const)`).
 /// The exit of a namespace's init ends all its members, and the namespace falls with all inside it
 /// (`pid_namespaces(7)`).
 ///
-/// It is refused where no live task has the caller's number, and to the init of the root namespace. It needs
+/// It is refused where no running thread has the caller's number, and to the init of the root namespace. It needs
 /// no memory.
 ///
-/// It costs one search for the caller, and a few writes for each child. If there is a child and some task is a
-/// subreaper, it also costs a step for each ancestor up to the nearest one, or else up to the first in another
-/// namespace. A teardown costs a search for each member and each level of its identifier.
+/// It costs one search for the caller, a few writes for each child, and for each thread beside the first one what its
+/// leave does. If there is a child and some task is a subreaper, it also costs a step for each ancestor up to the
+/// nearest one, or else up to the first in another namespace. A teardown costs a search for each member and each level
+/// of its identifier.
 #[tactic(auto, unfolding(pid_types::specs::Exit::exit))]
 #[inline(never)]
 pub fn exit(store: &mut Tasks, caller: Pid, status: u8) -> ShortReply
-    requires { IsWhole store.old }
-    ensures state { state_of store.new ≡ (exit_of (state_of store.old) caller status).state }
-    ensures reply { reply_of result ≡ (exit_of (state_of store.old) caller status).reply }
-    ensures parents { HasParents store.new }
-    ensures threads { store.new.threads ≡ store.old.threads }
+    requires { IsWholeWithThreads store.old }
+    ensures state { full_state store.new ≡ (exit_of (full_state store.old) caller status).state }
+    ensures reply { reply_of result ≡ (exit_of (full_state store.old) caller status).reply }
+    ensures full { IsWholeWithThreads store.new }
+    ensures alone { StaysAlone store.old store.new }
 {
     laws(store);
     let Some(found) = find_live(store, caller) else {
@@ -109,8 +123,8 @@ pub fn exit(store: &mut Tasks, caller: Pid, status: u8) -> ShortReply
 /// The reply that [`exit`] would get. It changes nothing.
 #[tactic(auto, unfolding(pid_types::specs::Exit::exit))]
 pub fn would_exit(store: &Tasks, caller: Pid, status: u8) -> ShortReply
-    requires { IsWhole store.now }
-    ensures { reply_of result ≡ (exit_of (state_of store.now) caller status).reply }
+    requires { IsWholeWithThreads store.now }
+    ensures { reply_of result ≡ (exit_of (full_state store.now) caller status).reply }
 {
     laws(store);
     let Some(found) = find_live(store, caller) else {
@@ -120,4 +134,21 @@ pub fn would_exit(store: &Tasks, caller: Pid, status: u8) -> ShortReply
         return ShortReply::Refused(Refusal::RootInit);
     }
     ShortReply::Done
+}
+
+/// `_exit(2)` as the system call: the calling thread leaves, and the last thread of a process that runs ends it with
+/// the status, as [`exit`] does. Refused is a caller that is no running thread of a live process, and the last thread
+/// of the root init. It needs no memory.
+///
+/// It costs what [`leave_beside`] does, and for the last thread what `exit` does.
+pub fn leave(store: &mut Tasks, caller: Pid, status: u8) -> ShortReply
+    requires { IsWholeWithThreads store.old }
+    ensures state { full_state store.new ≡ (leave_of (full_state store.old) caller status).state }
+    ensures reply { reply_of result ≡ (leave_of (full_state store.old) caller status).reply }
+    ensures full { IsWholeWithThreads store.new }
+{
+    if let Some(reply) = leave_beside(store, caller) {
+        return reply;
+    }
+    exit(store, caller, status)
 }

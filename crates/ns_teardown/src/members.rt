@@ -1,20 +1,25 @@
 //! The end of the members of a namespace that has fallen (`pid_namespaces(7)`).
-ghost use Rattle.std.specs.Prelude.{◌≡◌, ◌≢◌, ℕ, ◌<◌, ◌==◌, length, Some, IsSome, true, false};
+ghost use Rattle.std.specs.Prelude.{◌≡◌, ℕ, ◌<◌, ◌==◌, length, Some, IsSome, true, false};
 ghost use Rattle.std.specs.Option.{option_map_or};
 ghost use Rattle.{
   pid_types.specs.Settings.{HasGoodPidMax},
   pid_numbers.specs.Numbering.{Identifier, identifier_at, number_of},
   task_tree.specs.Tree.{task_at, parent_of, lives},
-  task_table.specs.{Store.{HasNoThreads, IsLess}, Whole.{HasParents}},
-  ns_teardown.specs.Fall.{slot_at, member_after_fall, slot_after_fall, parent_falls_at, KeepsHomes},
+  task_table.specs.{Store.{IsLess, IsVisibleToParent}, Whole.{HasParents}},
+  thread_view.specs.Calling.{HasProcesses},
+  thread_ends.specs.Ending.{EndsProcesses, KeepsHomes, Unmarks},
+  ns_teardown.specs.Fall.{slot_at, vacant, HasRootGroup, KeepsOthers, is_visible_in, member_after_fall},
+  ns_teardown.specs.Fall.{slot_after_fall, parent_falls_at},
 };
 
+use crate::ends::finish;
 use pid_types::call::Kind;
 use pid_types::keys::{SpaceKey, TaskKey};
 use pid_types::plain::{Ended, Life};
 use task_table::Tasks;
 use task_table::view::laws;
 use task_tree::Task;
+use thread_ends::end_others;
 
 /// Whether the task goes with its parent: that is a member of the namespace, or it has gone.
 fn parent_falls(store: &Tasks, space: SpaceKey, key: TaskKey) -> bool
@@ -30,21 +35,42 @@ fn parent_falls(store: &Tasks, space: SpaceKey, key: TaskKey) -> bool
     }
 }
 
-/// The member ends in its place, if it lives: the init by its exit, and another one is killed.
+/// The member goes, whether its first thread has left or not. One that has left is charged as an ended one: it is
+/// charged as a live one again, in the root group, before it goes. Its other threads stay.
+fn remove(store: &mut Tasks, key: TaskKey, task: Task)
+    requires there { task_at store.old.tree key ≡ Some task }
+    requires root { HasRootGroup store.old }
+    ensures here { slot_at store.new key ≡ vacant }
+    ensures others { KeepsOthers key store.old store.new }
+    ensures numbers { IsLess store.old.numbering store.new.numbering }
+    ensures homes { KeepsHomes store.old.charges store.new.charges }
+    ensures threads { Unmarks key store.old.threads store.new.threads }
+{
+    laws(store);
+    if !store.threads().has_left(key) {
+        store.remove(key, task);
+        return;
+    }
+    let Some(root) = store.controls().find(0) else {
+        unreachable!()
+    };
+    store.return_first(key, task, root);
+    store.remove(key, Task { home: root, ..task });
+}
+
+/// The member ends in its place, if it lives: the init by its exit, and another one is killed. Its other threads stay.
 fn finish_member(store: &mut Tasks, is_init: bool, status: u8, key: TaskKey, task: Task)
     requires there { task_at store.old.tree key ≡ Some task }
-    requires alone { HasNoThreads store.old.threads }
     requires live { is_init ≡ true → lives task ≡ true }
-    requires visible { (p : ℕ) → parent_of store.old.tree key ≡ Some p
-        → (u : Identifier) × (identifier_at store.old.numbering p ≡ Some u)
-        × IsSome (number_of store.old.numbering key u.space) }
+    requires visible { IsVisibleToParent store.old key }
     ensures here { slot_at store.new key ≡ member_after_fall false is_init status (slot_at store.old key) }
-    ensures others { (k : ℕ) → k ≢ key → slot_at store.new k ≡ slot_at store.old k }
+    ensures others { KeepsOthers key store.old store.new }
     ensures numbers { store.new.numbering ≡ store.old.numbering }
     ensures homes { KeepsHomes store.old.charges store.new.charges }
-    ensures threads { store.new.threads ≡ store.old.threads }
+    ensures threads { Unmarks key store.old.threads store.new.threads }
 {
     if matches!(task.life, Life::Zombie(_)) {
+        laws(store);
         return;
     }
     let end = if is_init {
@@ -52,48 +78,51 @@ fn finish_member(store: &mut Tasks, is_init: bool, status: u8, key: TaskKey, tas
     } else {
         Ended::Killed
     };
-    store.finish(key, task, end);
+    finish(store, key, task, end);
 }
 
-/// The member goes with its parent, or ends in its place.
+/// The member goes with its parent, or ends in its place, with all its threads.
 fn end_member(store: &mut Tasks, space: SpaceKey, init: TaskKey, status: u8, key: TaskKey)
     requires there { IsSome (task_at store.old.tree key) }
-    requires alone { HasNoThreads store.old.threads }
+    requires root { HasRootGroup store.old }
     requires live { key ≡ init → option_map_or lives (task_at store.old.tree key) false ≡ true }
     requires visible { (p : ℕ) → parent_of store.old.tree key ≡ Some p → IsSome (task_at store.old.tree p)
         → (u : Identifier) × (identifier_at store.old.numbering p ≡ Some u)
         × IsSome (number_of store.old.numbering key u.space) }
     ensures here { slot_at store.new key ≡ member_after_fall (parent_falls_at store.old space key) (key == init) status
         (slot_at store.old key) }
-    ensures others { (k : ℕ) → k ≢ key → slot_at store.new k ≡ slot_at store.old k }
+    ensures others { KeepsOthers key store.old store.new }
     ensures numbers { IsLess store.old.numbering store.new.numbering }
     ensures homes { KeepsHomes store.old.charges store.new.charges }
-    ensures threads { store.new.threads ≡ store.old.threads }
+    ensures threads { EndsProcesses (λ p. p == key) store.old.threads store.new.threads }
 {
     laws(store);
     let Some(task) = store.tree().task(key) else {
         unreachable!()
     };
     if parent_falls(store, space, key) {
-        store.remove(key, task);
-        return;
+        remove(store, key, task);
+    } else {
+        finish_member(store, key == init, status, key, task);
     }
-    finish_member(store, key == init, status, key, task);
+    laws(store);
+    end_others(store, key);
 }
 
-/// All members of the namespace end, in the order of their numbers there. Nothing is handed on: a member
-/// whose parent has gone already goes too.
+/// All members of the namespace end, in the order of their numbers there, with all their threads. Nothing is handed on:
+/// a member whose parent has gone already goes too.
 pub fn end_members(store: &mut Tasks, space: SpaceKey, init: TaskKey, status: u8)
-    requires alone { HasNoThreads store.old.threads }
     requires bound { HasGoodPidMax store.old.numbering.pid_max }
+    requires root { HasRootGroup store.old }
     requires live { option_map_or lives (task_at store.old.tree init) false ≡ true }
     requires parents { HasParents store.old }
+    requires processes { HasProcesses store.old }
     requires visible { (k p : ℕ) (u : Identifier) → parent_of store.old.tree k ≡ Some p
         → identifier_at store.old.numbering p ≡ Some u → IsSome (number_of store.old.numbering k u.space) }
     ensures slots { (k : ℕ) → slot_at store.new k ≡ slot_after_fall store.old space init status k }
     ensures numbers { IsLess store.old.numbering store.new.numbering }
     ensures homes { KeepsHomes store.old.charges store.new.charges }
-    ensures threads { store.new.threads ≡ store.old.threads }
+    ensures threads { EndsProcesses (is_visible_in store.old.numbering space) store.old.threads store.new.threads }
 {
     laws(store);
     let mut from = 0u32;

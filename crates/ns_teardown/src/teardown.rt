@@ -9,24 +9,27 @@
 //!
 //! No call here needs memory, and none refuses: who calls has seen that the task lives.
 
-ghost use Rattle.std.specs.Prelude.{◌≡◌, ◌≢◌, ℕ, ◌+◌, ◌-◌, option_map, Some, true, false, slice_set};
+ghost use Rattle.std.specs.Prelude.{◌≡◌, ◌≢◌, ◌==◌, ℕ, option_map, Some, true, false, slice_set};
 ghost use Rattle.std.specs.Option.{option_map_or};
 ghost use Rattle.{
   pid_types.specs.{Settings.{HasGoodPidMax}, declared.plain.Life.{Life}, declared.plain.Ended.{Ended}},
   pid_numbers.specs.Numbering.{Identifier, Numbering, identifier_at, number_of},
-  pids_charge.specs.Charges.{Home, home_at, ChangesHome},
   task_tree.specs.Tree.{task_at, parent_of, lives, handed},
-  task_table.specs.{Store.{HasNoThreads, IsLess}, Lawful.{HasLaws}, Whole.{HasParents}, Found.{HasOwnSpace}},
+  task_table.specs.{Store.{IsLess}, Lawful.{HasLaws}, Whole.{HasParents}, Found.{HasOwnSpace}},
+  thread_view.specs.Calling.{HasProcesses},
+  thread_ends.specs.Ending.{EndsProcesses, KeepsHomes},
   ns_teardown.specs.{GoodTasks.{HasGoodTasks, IsNoInit, IsInnerInit}, Heirs.{IsHeir}},
-  ns_teardown.specs.Fall.{slot_at, member_after_fall, slot_after_fall, FallsWithin, KeepsHomes},
+  ns_teardown.specs.Fall.{slot_at, is_visible_in, member_after_fall, slot_after_fall, FallsWithin, HasRootGroup},
 };
 
+use crate::ends::finish;
 use crate::heirs::nearest_subreaper;
 use crate::members::end_members;
 use pid_types::keys::{SpaceKey, TaskKey};
 use pid_types::plain::Ended;
 use task_table::Tasks;
 use task_table::view::{Found, laws};
+use thread_ends::end_others;
 
 /// Who takes the children of a live task when it ends, which is in the namespace: the nearest subreaper of that
 /// namespace among its ancestors (`PR_SET_CHILD_SUBREAPER(2const)`), or else the init there. Ancestors in other
@@ -69,11 +72,10 @@ fn hand_children(store: &mut Tasks, key: TaskKey, space: SpaceKey)
     store.hand_on(key, heir);
 }
 
-/// A live task that is no init of its own namespace ends (`_exit(2)`): its children get their new parent,
-/// and it waits for its own as a zombie. A task without children needs no new parent.
+/// A live process that is no init of its own namespace ends with all its threads (`_exit(2)`): its children get their
+/// new parent, and it waits for its own as a zombie. A process without children needs no new parent.
 pub fn exit(store: &mut Tasks, found: &Found, status: u8)
     requires good { HasGoodTasks store.old }
-    requires alone { HasNoThreads store.old.threads }
     requires there { task_at store.old.tree found.now.key ≡ Some found.now.task }
     requires live { lives found.now.task ≡ true }
     requires own { HasOwnSpace store.old found.now }
@@ -82,27 +84,29 @@ pub fn exit(store: &mut Tasks, found: &Found, status: u8)
         (Some (record found.now.task { life = Life.Zombie (Ended.Exited status) })) }
     ensures parents { (heir : ℕ) × IsHeir store.old found.now.key heir × ((k : ℕ) → parent_of store.new.tree k
         ≡ option_map (handed found.now.key heir) (parent_of store.old.tree k)) }
-    ensures home { ChangesHome store.old.charges store.new.charges found.now.task.home
-        (option_map (λ (h : Home). record h { live = h.live - 1; zombies = h.zombies + 1 })
-        (home_at store.old.charges found.now.task.home)) }
-    ensures rest { (store.new.numbering ≡ store.old.numbering) × (store.new.members ≡ store.old.members) }
+    ensures numbers { IsLess store.old.numbering store.new.numbering }
+    ensures homes { KeepsHomes store.old.charges store.new.charges }
+    ensures members { store.new.members ≡ store.old.members }
+    ensures threads { EndsProcesses (λ p. p == found.now.key) store.old.threads store.new.threads }
     ensures tree { HasParents store.new }
-    ensures threads { store.new.threads ≡ store.old.threads }
 {
     laws(store);
     hand_children(store, found.key, found.space);
-    store.finish(found.key, found.task, Ended::Exited(status));
+    finish(store, found.key, found.task, Ended::Exited(status));
+    laws(store);
+    end_others(store, found.key);
 }
 
 /// The live init of a namespace other than the root ends, and the namespace falls with all inside it: of
 /// its members the init has ended by its exit; another one whose parent is outside is killed, if it lived;
-/// and who is the child of a member is gone, zombies too. A namespace that has fallen is dropped when no
-/// identifier with a number in it is left.
+/// and who is the child of a member is gone, zombies too. All threads of members are gone. A namespace that has fallen
+/// is dropped when no identifier with a number in it is left.
 ///
 /// It costs a search for each member and each level of its identifier, and a step for each namespace that is inside.
 pub fn fall(store: &mut Tasks, init: &Found, status: u8)
     requires good { HasGoodTasks store.old }
-    requires alone { HasNoThreads store.old.threads }
+    requires processes { HasProcesses store.old }
+    requires root { HasRootGroup store.old }
     requires bound { HasGoodPidMax store.old.numbering.pid_max }
     requires live { option_map_or lives (task_at store.old.tree init.now.key) false ≡ true }
     requires own { HasOwnSpace store.old init.now }
@@ -115,7 +119,8 @@ pub fn fall(store: &mut Tasks, init: &Found, status: u8)
         → (b : Numbering) × FallsWithin u.space store.old.numbering b × HasLaws b × IsLess b store.new.numbering }
     ensures homes { KeepsHomes store.old.charges store.new.charges }
     ensures tree { HasParents store.new }
-    ensures threads { store.new.threads ≡ store.old.threads }
+    ensures threads { (u : Identifier) → identifier_at store.old.numbering init.now.key ≡ Some u
+        → EndsProcesses (is_visible_in store.old.numbering u.space) store.old.threads store.new.threads }
 {
     laws(store);
     store.fell(init.space);

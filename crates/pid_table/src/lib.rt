@@ -17,6 +17,7 @@ ghost use Rattle.{
   pid_table.specs.Bare.{IsBare},
 };
 
+mod alone;
 mod step;
 
 use model_laws::soundness::root_state_is_sound;

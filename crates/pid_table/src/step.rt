@@ -5,33 +5,32 @@ ghost use Rattle.{
   pid_types.specs.{Short.{reply_of}, Sound.{IsBelow}, Step.{step, may_grow}, Written.{IsWritten}},
   pid_types.specs.declared.call.Call.TheVariants.{NsPid},
   pid_table.specs.Lists.{answers_list},
-  task_table.specs.{View.{state_of}, Whole.{HasParents, IsWhole}},
+  task_table.specs.{Store.{HasNoThreads}, View.{state_of}, Whole.{HasParents, IsWhole}},
   translate.specs.Zeroes.{HasZeroesBehind},
 };
 
 use crate::PidTable;
+use crate::alone::{
+    count, exec, exit, get_pgid, get_pid, get_ppid, get_sid, next, set_subreaper, wait, would_exec,
+    would_exit, would_set_subreaper, would_wait,
+};
 use fork_calls::{fork, would_fork};
 use model_laws::laws::nothing_changes;
 use model_laws::soundness::soundness_is_kept;
-use ns_teardown::{exit, would_exit};
 use pid_types::call::Call;
 use pid_types::keys::Pid;
 use pid_types::plain::LEVELS;
 use pid_types::reply::{Refusal, Reply, ShortReply};
 use set_calls::controls::{
-    count, make_control, remove_control, set_limit, would_make_control, would_remove_control,
+    make_control, remove_control, set_limit, would_make_control, would_remove_control,
     would_set_limit,
 };
 use set_calls::groups::{set_pgid, set_sid, would_set_pgid, would_set_sid};
-use set_calls::tasks::{
-    exec, join, move_task, set_subreaper, would_exec, would_join, would_move_task,
-    would_set_subreaper,
-};
+use set_calls::tasks::{join, move_task, would_join, would_move_task};
 use std::alloc::AllocError;
 use task_table::Tasks;
+use translate::ns_pid;
 use translate::stat::listed;
-use translate::{get_pgid, get_pid, get_ppid, get_sid, next, ns_pid};
-use wait_calls::{wait, would_wait};
 
 /// Whether the call is a query: a getpid, getppid, getpgid, getsid, nspid, next or count. It changes nothing.
 pub fn is_query(call: &Call) -> bool
@@ -57,7 +56,7 @@ pub fn is_query(call: &Call) -> bool
 }
 
 /// Makes a call that is no query on a store. It is apart from the queries: so they are no part of a large function.
-#[tactic(auto, unfolding(pid_types::specs::Step::step))]
+#[tactic(auto, using(crate::proofs::Begun::alone_still), unfolding(pid_types::specs::Step::step))]
 #[inline(always)]
 fn make_change(store: &mut Tasks, stamp: u64, call: Call) -> Result<ShortReply, AllocError>
     requires whole { IsWhole store.old }
@@ -68,7 +67,7 @@ fn make_change(store: &mut Tasks, stamp: u64, call: Call) -> Result<ShortReply, 
     ensures err { OnErr result (state_of store.new ≡ state_of store.old) }
     ensures grows { OnErr result (IsTrue (may_grow call)) }
     ensures parents { HasParents store.new }
-    ensures threads { store.new.threads ≡ store.old.threads }
+    ensures alone { HasNoThreads store.new.threads }
 {
     let short = match call {
         Call::Fork { caller, new_space } => fork(store, caller, new_space, stamp)?,
@@ -105,7 +104,7 @@ fn make_short(store: &mut Tasks, stamp: u64, call: Call) -> Result<ShortReply, A
     ensures err { OnErr result (state_of store.new ≡ state_of store.old) }
     ensures grows { OnErr result (IsTrue (may_grow call)) }
     ensures parents { HasParents store.new }
-    ensures threads { store.new.threads ≡ store.old.threads }
+    ensures alone { HasNoThreads store.new.threads }
 {
     nothing_changes();
     if is_query(&call) {
@@ -138,7 +137,7 @@ fn make(store: &mut Tasks, stamp: u64, call: Call, reply: &mut Reply) -> Result<
     ensures err { OnErr result (state_of store.new ≡ state_of store.old) }
     ensures grows { OnErr result (IsTrue (may_grow call)) }
     ensures parents { HasParents store.new }
-    ensures threads { store.new.threads ≡ store.old.threads }
+    ensures alone { HasNoThreads store.new.threads }
 {
     if let Call::NsPid { caller, target } = call {
         put_ns_pid(store, caller, target, reply);
@@ -280,7 +279,6 @@ impl PidTable {
     /// It costs a search on each level of the namespaces that the call names, a step for each control group around the
     /// task, and for a fall one for each member and for each namespace inside. A wait for a group walks at
     /// most four times the shorter of two lists: the caller's children, and the members of the group.
-    #[tactic(auto, using(crate::proofs::Begun::alone_still))]
     #[inline(always)]
     pub fn step(&mut self, stamp: u64, call: Call, reply: &mut Reply) -> Result<(), AllocError>
         requires below { IsBelow stamp self.old }
@@ -295,7 +293,6 @@ impl PidTable {
 
     /// Makes a call but `NSpid`, which may be answered by a list, as [`PidTable::step`] does: so the reply is a short
     /// one, and nothing is written but that.
-    #[tactic(auto, using(crate::proofs::Begun::alone_still))]
     #[inline(always)]
     pub fn step_short(&mut self, stamp: u64, call: Call) -> Result<ShortReply, AllocError>
         requires below { IsBelow stamp self.old }

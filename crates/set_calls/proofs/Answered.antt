@@ -143,8 +143,8 @@ module _ (s : Store) (l : IsLawful s) (c id : ℕ) (standing : stands s.charges 
         cc))
 
 -- a count
-pub is-counted : (s : Store) (id : ℕ) → IsSome (control_at s.charges.controls id) → count_tasks (state_of s) id ≡ answered (state_of s) (Counted (count (state_of s) id))
+pub is-counted : (state : State) (id : ℕ) → IsSome (control_at state.controls id) → count_tasks state id ≡ answered state (Counted (count state id))
 unfolding count_tasks
-is-counted s id there =
-    let g = held (control_at s.charges.controls id) there in
-    ap (λ o. for_found (state_of s) o NoControl (λ (c : Control). answered (state_of s) (Counted (count (state_of s) id)))) g.1
+is-counted state id there =
+    let g = held (control_at state.controls id) there in
+    ap (λ o. for_found state o NoControl (λ (c : Control). answered state (Counted (count state id)))) g.1

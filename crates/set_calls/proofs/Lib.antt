@@ -6,3 +6,5 @@ pub mod InSession
 pub mod Asked
 pub mod Regrouped
 pub mod Led
+pub mod Still
+pub mod Lone

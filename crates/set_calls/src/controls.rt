@@ -9,6 +9,7 @@ ghost use Rattle.{
   pid_types.specs.Changes.{count_tasks, make_control as make_control_of, remove_control as remove_control_of},
   pid_types.specs.{Changes.{set_limit as set_limit_of}, Sound.{IsBelow}, Short.{reply_of}},
   task_table.specs.{View.{state_of}, Whole.{IsWhole, HasParents}},
+  thread_view.specs.Full.{full_state},
 };
 
 use pid_types::reply::{Refusal, ShortReply};
@@ -97,15 +98,15 @@ pub fn set_limit(store: &mut Tasks, id: u64, limit: Option<u32>) -> ShortReply
     }
 }
 
-/// A read of `pids.current`: how many tasks the control group and those below it have, zombies among them. The
-/// refusal is `NoControl`.
+/// A read of `pids.current`: how many tasks the control group and those below it have, each thread one, and zombies
+/// among them. The refusal is `NoControl`.
 #[tactic(auto, unfolding(pid_types::specs::Changes::count_tasks))]
 pub fn count(store: &Tasks, id: u64) -> ShortReply
-    requires { IsWhole store.now }
-    ensures state { (count_tasks (state_of store.now) id).state ≡ state_of store.now }
-    ensures reply { reply_of result ≡ (count_tasks (state_of store.now) id).reply }
+    ensures state { (count_tasks (full_state store.now) id).state ≡ full_state store.now }
+    ensures reply { reply_of result ≡ (count_tasks (full_state store.now) id).reply }
 {
     laws(store);
+    store.thread_laws();
     let Some(key) = store.controls().find(id) else {
         return ShortReply::Refused(Refusal::NoControl);
     };

@@ -16,7 +16,7 @@ use task_table::view::{is_live, laws};
 use task_tree::Task;
 
 /// The key of the root control group.
-fn root_control(rt: &impl Abort, store: &Tasks) -> ControlKey
+pub(crate) fn root_control(rt: &impl Abort, store: &Tasks) -> ControlKey
     ensures { stands store.now.charges result ≡ true }
 {
     let Some(home) = store.controls().find(0) else {

@@ -40,7 +40,7 @@ use Rattle.thread_view.proofs.Threads.{thread-named, thread-keyed, no-task, proc
 use Rattle.thread_view.proofs.Named.{swept-full}
 
 -- an identifier with a number is there
-numbered_there : (b : Numbering) (k sp n : ℕ) → number_of b k sp ≡ Some n → (u : Identifier) × (identifier_at b k ≡ Some u)
+pub numbered_there : (b : Numbering) (k sp n : ℕ) → number_of b k sp ≡ Some n → (u : Identifier) × (identifier_at b k ≡ Some u)
 numbered_there b k sp n e = go (identifier_at b k) refl e
   where
     go : (o : Option Identifier) → identifier_at b k ≡ o → number_in (path_at b) sp o ≡ Some n → (u : Identifier) × (identifier_at b k ≡ Some u)

@@ -15,7 +15,10 @@ ghost use Rattle.{
   thread_ends.specs.Leaving.{LeavesBeside, TellsBeside},
 };
 
+mod others;
+
 use model_laws::soundness::threads_keep_soundness;
+pub use others::end_others;
 use pid_types::keys::{Pid, TaskKey};
 use pid_types::reply::{Refusal, ShortReply};
 use task_table::Tasks;

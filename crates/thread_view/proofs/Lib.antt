@@ -4,3 +4,4 @@ pub mod Alone
 pub mod Named
 pub mod Counted
 pub mod Begun
+pub mod StaysWhole

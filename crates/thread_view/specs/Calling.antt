@@ -7,6 +7,7 @@ use Rattle.process_threads.specs.declared.Thread.{Thread}
 use Rattle.process_threads.specs.Threads.{left_at}
 use Rattle.task_tree.specs.declared.Task.{Task}
 use Rattle.task_tree.specs.Tree.{task_at, lives, has_live}
+use Rattle.task_table.specs.declared.view.Found.{Found}
 use Rattle.task_table.specs.Store.{Store, IsThread}
 use Rattle.task_table.specs.View.{name_at, row_of}
 use Rattle.task_table.specs.Whole.{HasParents}
@@ -22,6 +23,14 @@ pub record IsWholeWithThreads (s : Store) : Type 0 where
   pub sound : IsSound (full_state s)
   pub parents : HasParents s
   pub processes : HasProcesses s
+
+-- the task is there
+abbrev pub IsThere : Store → Found → Type 0
+IsThere s f = task_at s.tree f.key ≡ Some f.task
+
+-- the namespace has the id that is the task's own
+abbrev pub HasOwnId : Store → Found → Type 0
+HasOwnId s f = id_at s.numbering f.space ≡ Some (name_at s.numbering f.key).space
 
 -- the thread of the process that calls by the number: another one than the first, or the first, which has not left
 abbrev pub IsBy : Store → ℕ → ℕ → Option ℕ → Type 0

@@ -10,9 +10,9 @@ ghost use Rattle.{
   pid_types.specs.{Threads.{as_thread, caller_of, process_numbered}, declared.plain.Row.{Row}},
   pids_charge.specs.Charges.{stands},
   pid_numbers.specs.Numbering.{id_at},
-  task_tree.specs.Tree.{task_at},
+  task_tree.specs.Tree.{task_at, lives},
   task_table.specs.{declared.view.Found.{Found}, View.{name_at, row_of}, Found.{HasOwnSpace}, Whole.{IsWhole}},
-  thread_view.specs.{Full.{full_state}, Calling.{HasProcesses, IsCallingBy, IsWholeWithThreads}},
+  thread_view.specs.{Full.{full_state}, Calling.{HasOwnId, HasProcesses, IsCallingBy, IsWholeWithThreads}},
 };
 
 use pid_types::keys::{Pid, SpaceKey, TaskKey};
@@ -65,6 +65,27 @@ pub fn find_calling(store: &Tasks, number: Pid) -> Option<Calling>
         process,
         space: own_space(store, process),
         thread: Some(key),
+    })
+}
+
+/// The live process of which the thread with the number in the root namespace runs, as [`find_calling`] has it, with
+/// what it is.
+pub fn find_live(store: &Tasks, number: Pid) -> Option<Found>
+    requires { HasProcesses store.now }
+    ensures there { IfSome result (λ f. (task_at store.now.tree f.key ≡ Some f.task) × (lives f.task ≡ true)) }
+    ensures own { IfSome result (λ f. HasOwnSpace store.now f) }
+    ensures id { IfSome result (HasOwnId store.now) }
+    ensures row { caller_of (full_state store.now) number
+        ≡ option_map (λ (f : Found). row_of store.now f.key f.task) result }
+{
+    let calling = find_calling(store, number)?;
+    let Some(task) = store.tree().task(calling.process) else {
+        unreachable!()
+    };
+    Some(Found {
+        key: calling.process,
+        space: calling.space,
+        task,
     })
 }
 

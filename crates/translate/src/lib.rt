@@ -11,6 +11,7 @@ ghost use Rattle.{
   pid_types.specs.Queries.{get_sid as get_sid_of, ns_pid as ns_pid_of, next as next_of},
   pid_types.specs.{Short.{reply_of}, Written.{IsWritten, told_of}},
   task_table.specs.{View.{state_of}, Whole.{IsWhole}},
+  thread_view.specs.{Full.{full_state}, Calling.{IsWholeWithThreads}},
   translate.specs.{Zeroes.{HasZeroesBehind}, Seen.{IsSeenReply}},
 };
 ghost use Rattle.pid_types.specs.declared.call.Call.TheVariants as calls;
@@ -36,9 +37,9 @@ use task_table::Tasks;
 /// `getpid(2)`.
 #[inline(always)]
 pub fn get_pid(store: &Tasks, caller: Pid) -> ShortReply
-    requires { IsWhole store.now }
-    ensures value { reply_of result ≡ get_pid_of (state_of store.now) caller }
-    ensures seen { IsSeenReply (state_of store.now) caller calls.GetPid (reply_of result) }
+    requires { IsWholeWithThreads store.now }
+    ensures value { reply_of result ≡ get_pid_of (full_state store.now) caller }
+    ensures seen { IsSeenReply (full_state store.now) caller calls.GetPid (reply_of result) }
 {
     queries_answer_seen();
     queries::get_pid(store, caller)
@@ -47,9 +48,9 @@ pub fn get_pid(store: &Tasks, caller: Pid) -> ShortReply
 /// `getppid(2)`: 0 for a parent that the caller cannot see, and for the root init.
 #[inline(always)]
 pub fn get_ppid(store: &Tasks, caller: Pid) -> ShortReply
-    requires { IsWhole store.now }
-    ensures value { reply_of result ≡ get_ppid_of (state_of store.now) caller }
-    ensures seen { IsSeenReply (state_of store.now) caller calls.GetPpid (reply_of result) }
+    requires { IsWholeWithThreads store.now }
+    ensures value { reply_of result ≡ get_ppid_of (full_state store.now) caller }
+    ensures seen { IsSeenReply (full_state store.now) caller calls.GetPpid (reply_of result) }
 {
     queries_answer_seen();
     queries::get_ppid(store, caller)
@@ -58,9 +59,9 @@ pub fn get_ppid(store: &Tasks, caller: Pid) -> ShortReply
 /// `getpgid(2)`: 0 for a group that the caller cannot see.
 #[inline(always)]
 pub fn get_pgid(store: &Tasks, caller: Pid, pid: Pid) -> ShortReply
-    requires { IsWhole store.now }
-    ensures value { reply_of result ≡ get_pgid_of (state_of store.now) caller pid }
-    ensures seen { IsSeenReply (state_of store.now) caller (λ n. calls.GetPgid n pid) (reply_of result) }
+    requires { IsWholeWithThreads store.now }
+    ensures value { reply_of result ≡ get_pgid_of (full_state store.now) caller pid }
+    ensures seen { IsSeenReply (full_state store.now) caller (λ n. calls.GetPgid n pid) (reply_of result) }
 {
     queries_answer_seen();
     queries::get_pgid(store, caller, pid)
@@ -68,9 +69,9 @@ pub fn get_pgid(store: &Tasks, caller: Pid, pid: Pid) -> ShortReply
 
 /// `getsid(2)`: 0 for a session that the caller cannot see.
 pub fn get_sid(store: &Tasks, caller: Pid, pid: Pid) -> ShortReply
-    requires { IsWhole store.now }
-    ensures value { reply_of result ≡ get_sid_of (state_of store.now) caller pid }
-    ensures seen { IsSeenReply (state_of store.now) caller (λ n. calls.GetSid n pid) (reply_of result) }
+    requires { IsWholeWithThreads store.now }
+    ensures value { reply_of result ≡ get_sid_of (full_state store.now) caller pid }
+    ensures seen { IsSeenReply (full_state store.now) caller (λ n. calls.GetSid n pid) (reply_of result) }
 {
     // It is not inlined: what the way of a query can take in is limited, and the others come more often.
     queries_answer_seen();
@@ -99,9 +100,9 @@ pub fn ns_pid(
 /// search by marks.
 #[inline(always)]
 pub fn next(store: &Tasks, caller: Pid, kind: Kind, from: Pid) -> ShortReply
-    requires { IsWhole store.now }
-    ensures value { reply_of result ≡ next_of (state_of store.now) caller kind from }
-    ensures seen { IsSeenReply (state_of store.now) caller (λ n. calls.Next n kind from) (reply_of result) }
+    requires { IsWholeWithThreads store.now }
+    ensures value { reply_of result ≡ next_of (full_state store.now) caller kind from }
+    ensures seen { IsSeenReply (full_state store.now) caller (λ n. calls.Next n kind from) (reply_of result) }
 {
     queries_answer_seen();
     queries::next(store, caller, kind, from)

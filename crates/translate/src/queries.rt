@@ -8,6 +8,7 @@ ghost use Rattle.{
   task_tree.specs.{declared.Task.{Task}, Tree.{task_at, parent_of}},
   task_table.specs.{declared.view.Found.{Found}, Found.{IsFound}, View.{name_at, row_of, state_of}},
   task_table.specs.Whole.{HasParents, IsWhole},
+  thread_view.specs.{Full.{full_state}, Calling.{HasProcesses, IsThere, IsWholeWithThreads}},
   translate.specs.Zeroes.{HasZeroesBehind},
 };
 
@@ -16,7 +17,8 @@ use pid_types::keys::{IdentKey, Pid, SpaceKey, TaskKey};
 use pid_types::plain::LEVELS;
 use pid_types::reply::{Refusal, ShortReply};
 use task_table::Tasks;
-use task_table::view::{Found, find_caller, find_live, find_task, laws};
+use task_table::view::{Found, find_caller, find_task, laws};
+use thread_view::{find_calling, find_live, find_process};
 
 /// The number of an identifier in a namespace, 0 where it is not visible there.
 #[inline(always)]
@@ -96,26 +98,26 @@ pub(crate) fn seen_parent(store: &Tasks, space: SpaceKey, key: TaskKey) -> Pid
 #[tactic(auto, unfolding(pid_types::specs::Queries::get_pid))]
 #[inline(always)]
 pub(crate) fn get_pid(store: &Tasks, caller: Pid) -> ShortReply
-    requires { IsWhole store.now }
-    ensures { reply_of result ≡ get_pid_of (state_of store.now) caller }
+    requires { IsWholeWithThreads store.now }
+    ensures { reply_of result ≡ get_pid_of (full_state store.now) caller }
 {
-    let Some(found) = find_caller(store, caller) else {
+    let Some(calling) = find_calling(store, caller) else {
         return ShortReply::Refused(Refusal::NoCaller);
     };
-    ShortReply::Number(own_number(store, found.key))
+    ShortReply::Number(own_number(store, calling.process))
 }
 
 /// `getppid(2)`: 0 for a parent that the caller cannot see, and for the root init.
 #[tactic(auto, unfolding(pid_types::specs::Queries::get_ppid))]
 #[inline(always)]
 pub(crate) fn get_ppid(store: &Tasks, caller: Pid) -> ShortReply
-    requires { IsWhole store.now }
-    ensures { reply_of result ≡ get_ppid_of (state_of store.now) caller }
+    requires { IsWholeWithThreads store.now }
+    ensures { reply_of result ≡ get_ppid_of (full_state store.now) caller }
 {
-    let Some(found) = find_caller(store, caller) else {
+    let Some(calling) = find_calling(store, caller) else {
         return ShortReply::Refused(Refusal::NoCaller);
     };
-    ShortReply::Number(seen_parent(store, found.space, found.key))
+    ShortReply::Number(seen_parent(store, calling.space, calling.process))
 }
 
 /// The task with the number in the caller's namespace, where 0 is the caller.
@@ -135,17 +137,33 @@ pub(crate) fn self_or_task(store: &Tasks, caller: &Found, pid: Pid) -> Option<Fo
     }
 }
 
+/// The process that the number names in the caller's namespace, by any of its threads, where 0 is the caller.
+#[inline(always)]
+fn self_or_process(store: &Tasks, caller: &Found, pid: Pid) -> Option<Found>
+    requires found { IsFound store.now caller.now }
+    requires processes { HasProcesses store.now }
+    ensures there { IfSome result (IsThere store.now) }
+    ensures row { option_map (λ (f : Found). row_of store.now f.key f.task) result
+        ≡ self_or_task (full_state store.now) (row_of store.now caller.now.key caller.now.task) pid }
+{
+    if pid == 0 {
+        Some(*caller)
+    } else {
+        find_process(store, caller.space, pid)
+    }
+}
+
 /// `getpgid(2)`: 0 for a group that the caller cannot see.
 #[tactic(auto, unfolding(pid_types::specs::Queries::get_pgid))]
 #[inline(always)]
 pub(crate) fn get_pgid(store: &Tasks, caller: Pid, pid: Pid) -> ShortReply
-    requires { IsWhole store.now }
-    ensures { reply_of result ≡ get_pgid_of (state_of store.now) caller pid }
+    requires { IsWholeWithThreads store.now }
+    ensures { reply_of result ≡ get_pgid_of (full_state store.now) caller pid }
 {
     let Some(found) = find_live(store, caller) else {
         return ShortReply::Refused(Refusal::NoCaller);
     };
-    let Some(task) = self_or_task(store, &found, pid) else {
+    let Some(task) = self_or_process(store, &found, pid) else {
         return ShortReply::Refused(Refusal::NoTask);
     };
     ShortReply::Number(seen_group(store, found.space, &task))
@@ -155,13 +173,13 @@ pub(crate) fn get_pgid(store: &Tasks, caller: Pid, pid: Pid) -> ShortReply
 #[tactic(auto, unfolding(pid_types::specs::Queries::get_sid))]
 #[inline(always)]
 pub(crate) fn get_sid(store: &Tasks, caller: Pid, pid: Pid) -> ShortReply
-    requires { IsWhole store.now }
-    ensures { reply_of result ≡ get_sid_of (state_of store.now) caller pid }
+    requires { IsWholeWithThreads store.now }
+    ensures { reply_of result ≡ get_sid_of (full_state store.now) caller pid }
 {
     let Some(found) = find_live(store, caller) else {
         return ShortReply::Refused(Refusal::NoCaller);
     };
-    let Some(task) = self_or_task(store, &found, pid) else {
+    let Some(task) = self_or_process(store, &found, pid) else {
         return ShortReply::Refused(Refusal::NoTask);
     };
     ShortReply::Number(seen_session(store, found.space, &task))
@@ -201,14 +219,14 @@ pub(crate) fn ns_pid(
 #[tactic(auto, unfolding(pid_types::specs::Queries::next))]
 #[inline(always)]
 pub(crate) fn next(store: &Tasks, caller: Pid, kind: Kind, from: Pid) -> ShortReply
-    requires { IsWhole store.now }
-    ensures { reply_of result ≡ next_of (state_of store.now) caller kind from }
+    requires { IsWholeWithThreads store.now }
+    ensures { reply_of result ≡ next_of (full_state store.now) caller kind from }
 {
     laws(store);
-    let Some(found) = find_caller(store, caller) else {
+    let Some(calling) = find_calling(store, caller) else {
         return ShortReply::Refused(Refusal::NoCaller);
     };
-    match store.numbers().next_used(found.space, kind, from) {
+    match store.numbers().next_used(calling.space, kind, from) {
         Some(number) => ShortReply::Number(number),
         None => ShortReply::End,
     }

@@ -16,11 +16,12 @@ use Rattle.task_tree.specs.declared.Task.{Task}
 use Rattle.task_tree.specs.Tree.{task_at, parent_of, rank_of, lives, is_zombie, waits_for}
 use Rattle.groups_sessions.specs.Membership.{Membership, group_of}
 use Rattle.task_table.specs.Store.{Store}
-use Rattle.task_table.specs.View.{name_of, name_at, row_of, state_of}
+use Rattle.task_table.specs.View.{name_of, name_at, row_of}
 use Rattle.task_table.specs.Lawful.{IsLawful}
 use Rattle.task_table.proofs.Keys.{number-is_key}
 use Rattle.task_table.proofs.LookUps.{named, group-named, same-name, in-rows, rows-in}
 use Rattle.task_table.proofs.InUse.{member}
+use Rattle.thread_view.specs.Full.{full_state}
 use Rattle.wait_calls.specs.declared.selection.Selected.{Selected}
 use Rattle.wait_calls.specs.declared.selection.Selected.TheVariants.{Any, Task as OneTask, Group}
 use Rattle.wait_calls.specs.declared.selection.Choice.{Choice}
@@ -42,7 +43,7 @@ module _ (s : Store) (l : IsLawful s) (parents : (k p : ℕ) → parent_of s.tre
   b = s.numbering
 
   abbrev state : State
-  state = state_of s
+  state = full_state s
 
   abbrev row : Row
   row = row_of s caller own

@@ -10,7 +10,8 @@ use Rattle.task_tree.specs.declared.Task.{Task}
 use Rattle.task_tree.specs.Tree.{task_at, lives}
 use Rattle.groups_sessions.specs.Membership.{group_of}
 use Rattle.task_table.specs.Store.{Store}
-use Rattle.task_table.specs.View.{name_at, row_of, state_of}
+use Rattle.task_table.specs.View.{name_at, row_of}
+use Rattle.thread_view.specs.Full.{full_state}
 use Rattle.wait_calls.specs.declared.selection.Selected.{Selected}
 use Rattle.wait_calls.specs.declared.selection.Selected.TheVariants.{Any, Task as OneTask, Group}
 use Rattle.wait_calls.specs.declared.selection.Choice.{Choice}
@@ -34,15 +35,15 @@ IsUnknown s space _ = ⊥
 abbrev pub IsLeastEnded : Store → Row → Which → ℕ → Type 0
 IsLeastEnded s caller which child =
     (t : Task) × (task_at s.tree child ≡ Some t) × (lives t ≡ false)
-    × (least_row (state_of s) caller.name.space (ended_children (state_of s) caller which) ≡ Some (row_of s child t))
+    × (least_row (full_state s) caller.name.space (ended_children (full_state s) caller which) ≡ Some (row_of s child t))
 
 -- no child matches; or some do and none of them has ended; or else the child's row is the least of those that have, and its number
 -- in the caller's namespace is the rank
 abbrev pub IsTold : Store → Row → Which → Choice → Type 0
-IsTold s caller which NoChild = matching (state_of s) caller which ≡ []
+IsTold s caller which NoChild = matching (full_state s) caller which ≡ []
 IsTold s caller which NoneEnded =
-    ((length (matching (state_of s) caller which) == 0) ≡ false) × (ended_children (state_of s) caller which ≡ [])
+    ((length (matching (full_state s) caller which) == 0) ≡ false) × (ended_children (full_state s) caller which ≡ [])
 IsTold s caller which (Ended child rank) =
-    ((length (matching (state_of s) caller which) == 0) ≡ false)
+    ((length (matching (full_state s) caller which) == 0) ≡ false)
     × IsLeastEnded s caller which child
-    × (number_or_zero (state_of s).spaces (name_at s.numbering child) caller.name.space ≡ rank)
+    × (number_or_zero (full_state s).spaces (name_at s.numbering child) caller.name.space ≡ rank)

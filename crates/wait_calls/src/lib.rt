@@ -7,7 +7,8 @@ ghost use Rattle.{
   pid_types.specs.{declared.plain.Life.TheVariants.{Live, Zombie}, declared.plain.Ended.TheVariants.{Killed}},
   pid_numbers.specs.Numbering.{Identifier, identifier_at},
   task_tree.specs.{declared.Task.{Task}, Tree.{task_at, lives}},
-  task_table.specs.{View.{row_of, state_of}, Whole.{HasParents, IsWhole}},
+  task_table.specs.{View.{row_of}, Whole.{HasParents}},
+  thread_view.specs.{Calling.{HasProcesses, IsWholeWithThreads}, Full.{full_state}},
   wait_calls.specs.Told.{Means, IsUnknown, IsTold},
 };
 
@@ -21,8 +22,9 @@ use pid_types::plain::{Ended, Life};
 use pid_types::reply::{Refusal, ShortReply};
 use selection::{Choice, Selected, choose};
 use task_table::Tasks;
-use task_table::view::{Found, find_live, laws};
+use task_table::view::{Found, laws};
 use task_tree::Task;
+use thread_view::find_live;
 pub use would::would_wait;
 
 /// By which key the wait selects; none where it names a number that nobody has in the caller's namespace.
@@ -72,28 +74,32 @@ fn end_of_life(life: Life) -> Ended
 /// A zombie is gone, and how it ended is answered.
 #[tactic(auto, unfolding(pid_types::specs::Wait::without_row))]
 fn reap(store: &mut Tasks, child: TaskKey, task: Task) -> Ended
-    requires whole { IsWhole store.old }
+    requires whole { IsWholeWithThreads store.old }
     requires there { task_at store.old.tree child ≡ Some task }
     requires ended { lives task ≡ false }
-    ensures state { state_of store.new ≡ sweep (without_row (state_of store.old) (row_of store.old child task)) }
+    ensures state { full_state store.new ≡ sweep (without_row (full_state store.old) (row_of store.old child task)) }
     ensures ended { result ≡ end_of (row_of store.old child task) }
     ensures parents { HasParents store.new }
+    ensures processes { HasProcesses store.new }
     ensures threads { store.new.threads ≡ store.old.threads }
 {
     laws(store);
+    store.thread_laws();
     store.remove(child, task);
     laws(store);
+    store.thread_laws();
     end_of_life(task.life)
 }
 
-/// `waitpid(2)` with `WNOHANG`: reaps the selected child with the least number that has ended.
+/// `waitpid(2)` with `WNOHANG`, by any thread: reaps the selected child of its process with the least number that has
+/// ended. A child whose first thread has left has not ended while another of its threads runs.
 #[tactic(auto, unfolding(pid_types::specs::Wait::wait))]
 #[inline(never)]
 pub fn wait(store: &mut Tasks, caller: Pid, which: Which) -> ShortReply
-    requires { IsWhole store.old }
-    ensures state { state_of store.new ≡ (wait_of (state_of store.old) caller which).state }
-    ensures reply { reply_of result ≡ (wait_of (state_of store.old) caller which).reply }
-    ensures parents { HasParents store.new }
+    requires { IsWholeWithThreads store.old }
+    ensures state { full_state store.new ≡ (wait_of (full_state store.old) caller which).state }
+    ensures reply { reply_of result ≡ (wait_of (full_state store.old) caller which).reply }
+    ensures full { IsWholeWithThreads store.new }
     ensures threads { store.new.threads ≡ store.old.threads }
 {
     let Some(found) = find_live(store, caller) else {

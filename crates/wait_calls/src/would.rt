@@ -1,7 +1,7 @@
 //! The reply that a wait would get.
 ghost use Rattle.std.specs.Prelude.{◌≡◌};
 ghost use Rattle.pid_types.specs.{Short.{reply_of}, Wait.{wait as wait_of}};
-ghost use Rattle.task_table.specs.{View.{state_of}, Whole.{IsWhole}};
+ghost use Rattle.thread_view.specs.{Calling.{IsWholeWithThreads}, Full.{full_state}};
 
 use crate::selection::Choice;
 use crate::{choose_child, end_of_life};
@@ -9,13 +9,13 @@ use pid_types::call::Which;
 use pid_types::keys::Pid;
 use pid_types::reply::{Refusal, ShortReply};
 use task_table::Tasks;
-use task_table::view::find_live;
+use thread_view::find_live;
 
 /// The reply that [`wait`](crate::wait) would get. It changes nothing: `waitid(2)` with `WNOWAIT`.
 #[tactic(auto, unfolding(pid_types::specs::Wait::wait))]
 pub fn would_wait(store: &Tasks, caller: Pid, which: Which) -> ShortReply
-    requires { IsWhole store.now }
-    ensures { reply_of result ≡ (wait_of (state_of store.now) caller which).reply }
+    requires { IsWholeWithThreads store.now }
+    ensures { reply_of result ≡ (wait_of (full_state store.now) caller which).reply }
 {
     let Some(found) = find_live(store, caller) else {
         return ShortReply::Refused(Refusal::NoCaller);

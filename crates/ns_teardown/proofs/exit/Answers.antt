@@ -1,9 +1,10 @@
 -- Number 1 in the root or in its own namespace decides which of three ends it is: the test by key is the model's by name
-use Rattle.std.proofs.Common.{refl, sym, ap, ◌∙◌}
+use Rattle.std.proofs.Common.{sym, ap, ◌∙◌}
 use Rattle.pid_types.specs.Outcome.{Outcome}
 use Rattle.pid_numbers.specs.Numbering.{number_of}
-use Rattle.task_table.specs.View.{row_of, state_of}
-use Rattle.ns_teardown.proofs.Exits.{is-one, is-not-one, first-in-root, first-in-own, exit-refused, exit-falls, exit-ends}
+use Rattle.task_table.specs.View.{row_of}
+use Rattle.thread_view.specs.Full.{full_state}
+use Rattle.ns_teardown.proofs.Exits.{is-one, is-not-one, first-in-root, first-in-own, exit-refused, exit-falls, exit-ends, whole-after}
 use Rattle.ns_teardown.proofs.exit.Goals as goal
 
 pub returns-then-is_first : goal.returns-then-is_first
@@ -11,8 +12,8 @@ returns-then-is_first c =
     let old = c.args.store.now in
     let found = c.in-Some.found in
     let top = sym (first-in-root old c.laws.ensures found.key found.task c.in-Some.ensures.there.0) ∙ sym c.is_first.ensures ∙ c.if-is_first.true in
-    let is = exit-refused (state_of old) c.args.caller c.args.status (row_of old found.key found.task) c.in-Some.ensures.row top in
-    record { state = sym (ap (λ (o : Outcome). o.state) is); reply = sym (ap (λ (o : Outcome). o.reply) is); parents = c.requires.parents; threads = refl }
+    let is = exit-refused (full_state old) c.args.caller c.args.status (row_of old found.key found.task) c.in-Some.ensures.row top in
+    record { state = sym (ap (λ (o : Outcome). o.state) is); reply = sym (ap (λ (o : Outcome). o.reply) is); full = c.requires; alone = λ a. a }
 
 pub is_inner_init-requires : goal.is_inner_init-requires
 is_inner_init-requires c = sym c.is_first.ensures ∙ c.if-is_first.false
@@ -39,8 +40,8 @@ returns-then-is_inner_init c =
     let there = c.in-Some.ensures.there.0 in
     let top = sym (first-in-root old c.laws.ensures found.key found.task there) ∙ sym c.is_first.ensures ∙ c.if-is_first.false in
     let own = first-in-own old c.laws.ensures found.key found.task there c.in-Some.found.space c.in-Some.ensures.id ∙ sym c.is_inner_init.ensures in
-    let is = exit-falls (state_of old) c.args.caller c.args.status row c.in-Some.ensures.row top (own ∙ c.if-is_inner_init.true) in
-    record { state = c.end_init.ensures.state ∙ sym (ap (λ (o : Outcome). o.state) is); reply = sym (ap (λ (o : Outcome). o.reply) is); parents = c.end_init.ensures.parents; threads = c.end_init.ensures.threads }
+    let is = exit-falls (full_state old) c.args.caller c.args.status row c.in-Some.ensures.row top (own ∙ c.if-is_inner_init.true) in
+    record { state = c.end_init.ensures.state ∙ sym (ap (λ (o : Outcome). o.state) is); reply = sym (ap (λ (o : Outcome). o.reply) is); full = whole-after old c.end_init.new.store c.args.caller c.args.status c.requires (c.end_init.ensures.state ∙ sym (ap (λ (o : Outcome). o.state) is)) c.end_init.ensures.parents c.end_init.ensures.processes; alone = c.end_init.ensures.alone }
 
 pub returns-else-is_inner_init : goal.returns-else-is_inner_init
 returns-else-is_inner_init c =
@@ -50,5 +51,5 @@ returns-else-is_inner_init c =
     let there = c.in-Some.ensures.there.0 in
     let top = sym (first-in-root old c.laws.ensures found.key found.task there) ∙ sym c.is_first.ensures ∙ c.if-is_first.false in
     let own = first-in-own old c.laws.ensures found.key found.task there c.in-Some.found.space c.in-Some.ensures.id ∙ sym c.is_inner_init.ensures in
-    let is = exit-ends (state_of old) c.args.caller c.args.status row c.in-Some.ensures.row top (own ∙ c.if-is_inner_init.false) in
-    record { state = c.end_task.ensures.state ∙ sym (ap (λ (o : Outcome). o.state) is); reply = sym (ap (λ (o : Outcome). o.reply) is); parents = c.end_task.ensures.parents; threads = c.end_task.ensures.threads }
+    let is = exit-ends (full_state old) c.args.caller c.args.status row c.in-Some.ensures.row top (own ∙ c.if-is_inner_init.false) in
+    record { state = c.end_task.ensures.state ∙ sym (ap (λ (o : Outcome). o.state) is); reply = sym (ap (λ (o : Outcome). o.reply) is); full = whole-after old c.end_task.new.store c.args.caller c.args.status c.requires (c.end_task.ensures.state ∙ sym (ap (λ (o : Outcome). o.state) is)) c.end_task.ensures.parents c.end_task.ensures.processes; alone = c.end_task.ensures.alone }

@@ -1,6 +1,6 @@
 use Rattle.std.proofs.Common.{rules, sym}
 use Rattle.task_table.proofs.Gone.{IsGone}
-use Rattle.wait_calls.proofs.Gone.{reaped, parents-left}
+use Rattle.wait_calls.proofs.Gone.{reaped, parents-left, processes-left, ended-stays}
 use Rattle.wait_calls.proofs.reap.Goals as goal
 
 pub returns : goal.returns
@@ -16,11 +16,12 @@ returns c =
       numbers = c.remove.ensures.numbers;
     } in
     record {
-      state = sym (reaped old new c.laws.ensures c.laws-2.ensures c.requires.whole c.args.child c.args.task c.requires.there c.requires.ended g c.remove.ensures.threads);
+      state = sym (reaped old new c.laws.ensures c.laws-2.ensures c.requires.whole c.args.child c.args.task c.requires.there c.requires.ended g c.thread_laws.ensures c.thread_laws-2.ensures c.remove.ensures.threads);
       ended = search rules;
       parents = parents-left old new c.laws.ensures c.laws-2.ensures c.requires.whole c.args.child c.args.task c.requires.there c.requires.ended g;
+      processes = processes-left old new c.laws.ensures c.laws-2.ensures c.requires.whole c.args.child c.args.task c.requires.there c.requires.ended g c.remove.ensures.threads;
       threads = c.remove.ensures.threads;
     }
 
 pub remove-requires-clause-stays : goal.remove-requires-clause-stays
-remove-requires-clause-stays c = c.requires.whole.alone.stays c.args.child
+remove-requires-clause-stays c = ended-stays c.args.store.now c.laws.ensures c.args.child c.args.task c.requires.there c.requires.ended

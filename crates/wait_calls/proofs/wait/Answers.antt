@@ -1,11 +1,15 @@
-use Rattle.std.proofs.Common.{◌≡◌, ℕ, Some, sym, ap, ◌∙◌, rules}
+use Rattle.std.proofs.Common.{◌≡◌, ℕ, Some, refl, sym, ap, ◌∙◌, rules}
 use Rattle.pid_types.specs.declared.plain.Ended.{Ended}
 use Rattle.pid_types.specs.declared.reply.Reply.TheVariants.{Reaped}
-use Rattle.pid_types.specs.Outcome.{Outcome}
-use Rattle.pid_types.specs.Wait.{end_of, wait}
+use Rattle.pid_types.specs.Outcome.{Outcome, sweep}
+use Rattle.pid_types.specs.Step.{step}
+use Rattle.pid_types.specs.Wait.{end_of, wait, without_row}
+use Rattle.pid_types.specs.declared.call.Call.TheVariants.{Wait}
 use Rattle.task_tree.specs.declared.Task.{Task}
 use Rattle.task_tree.specs.Tree.{TreeOfTasks, task_at}
-use Rattle.task_table.specs.View.{row_of, state_of}
+use Rattle.task_table.specs.View.{row_of}
+use Rattle.thread_view.specs.Full.{full_state}
+use Rattle.thread_view.proofs.StaysWhole.{stays-whole}
 use Rattle.wait_calls.proofs.Reaped.{wait-reaps}
 use Rattle.wait_calls.proofs.wait.Goals as goal
 
@@ -18,9 +22,22 @@ returns-in-Some-task-clause-reply c =
     let task : Some c.in-Some-task.task ≡ Some (h.1).0 = c.in-Some-task.ensures ∙ ap (λ (t : TreeOfTasks). task_at t child) c.tree.ensures ∙ (h.1).1 in
     let same : c.in-Some-task.task ≡ (h.1).0 = cc in
     let end_is : c.reap-ended.result ≡ end_of row = c.reap-ended.ensures.ended ∙ ap (λ (t : Task). end_of (row_of s child t)) same in
-    let is = wait-reaps (state_of s) c.args.caller c.args.which (row_of s c.in-Some.found.key c.in-Some.found.task) row c.in-Some.ensures.row h.0 (h.1).3 in
+    let is = wait-reaps (full_state s) c.args.caller c.args.which (row_of s c.in-Some.found.key c.in-Some.found.task) row c.in-Some.ensures.row h.0 (h.1).3 in
     ap (λ (e : Ended). Reaped c.in-Ended.rank e) end_is ∙ ap (λ (n : ℕ). Reaped n (end_of row)) (sym h.2) ∙ sym (ap (λ (o : Outcome). o.reply) is)
 
 pub returns-in-NoneEnded-clause-reply : goal.returns-in-NoneEnded-clause-reply
 unfolding wait
 returns-in-NoneEnded-clause-reply c = search rules
+
+pub returns-in-Some-task-clause-full : goal.returns-in-Some-task-clause-full
+unfolding step
+returns-in-Some-task-clause-full c =
+    let s = c.args.store.now in
+    let child = c.in-Ended.child in
+    let h = c.in-Ended.ensures in
+    let row = row_of s child (h.1).0 in
+    let task : Some c.in-Some-task.task ≡ Some (h.1).0 = c.in-Some-task.ensures ∙ ap (λ (t : TreeOfTasks). task_at t child) c.tree.ensures ∙ (h.1).1 in
+    let same : c.in-Some-task.task ≡ (h.1).0 = cc in
+    let is = wait-reaps (full_state s) c.args.caller c.args.which (row_of s c.in-Some.found.key c.in-Some.found.task) row c.in-Some.ensures.row h.0 (h.1).3 in
+    let state = c.reap-ended.ensures.state ∙ ap (λ (t : Task). sweep (without_row (full_state s) (row_of s child t))) same ∙ sym (ap (λ (o : Outcome). o.state) is) in
+    stays-whole s c.reap-ended.new.store (Wait c.args.caller c.args.which) refl c.requires state c.reap-ended.ensures.parents c.reap-ended.ensures.processes

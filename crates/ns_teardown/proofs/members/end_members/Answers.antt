@@ -1,10 +1,10 @@
 -- Each member below the number reached is as after the fall, each above it as before, but that its parent may have gone already
-use Rattle.std.proofs.Common.{◌≡◌, ◌<◌, ◌≤◌, refl, sym, subst, ◌∙◌, arith}
-use Rattle.task_table.specs.Store.{HasNoThreads}
+use Rattle.std.proofs.Common.{◌≡◌, ◌<◌, ◌≤◌, IsSome, sym, subst, arith}
+use Rattle.pid_types.specs.Controls.{control_at}
 use Rattle.task_table.proofs.Less as less
 use Rattle.ns_teardown.proofs.Falling as falling
 use Rattle.task_table.proofs.Changed as changed
-use Rattle.ns_teardown.proofs.KeptHomes as homes
+use Rattle.thread_ends.proofs.KeptHomes as homes
 use Rattle.ns_teardown.proofs.members.end_members.Goals as goal
 
 pub loop-number-init : goal.loop-number-init
@@ -13,7 +13,7 @@ loop-number-init c =
       slots = falling.midway-first c.args.store.now c.laws.ensures c.requires.parents c.args.space c.args.init c.args.status;
       numbers = changed.IsLess-same c.args.store.now.numbering c.laws.ensures.numbering;
       homes = homes.KeepsHomes-refl c.args.store.now.charges;
-      threads = refl;
+      threads = falling.threads-first c.args.store.now c.laws.ensures c.requires.parents c.args.space c.args.init c.args.status;
       below = omega arith;
     }
 
@@ -49,7 +49,7 @@ loop-number-preserved c =
       slots = falling.step c.args.store.now c.laws.ensures c.requires.parents c.args.space c.args.init c.args.status c.loop-number.store c.laws-in-Some.ensures.agree c.loop-number.invariant.numbers c.loop-number.from c.loop-number.invariant.slots c.in-Some-find.key c.in-Some.number found.0 here there found.2 c.end_member.new.store c.end_member.ensures.here c.end_member.ensures.others;
       numbers = less.IsLess-trans c.args.store.now.numbering c.laws.ensures.numbering.full c.laws.ensures.numbering.own c.loop-number.store.numbering c.end_member.new.store.numbering c.loop-number.invariant.numbers c.end_member.ensures.numbers;
       homes = homes.KeepsHomes-trans c.args.store.now.charges c.loop-number.store.charges c.end_member.new.store.charges c.loop-number.invariant.homes c.end_member.ensures.homes;
-      threads = c.end_member.ensures.threads ∙ c.loop-number.invariant.threads;
+      threads = falling.threads-step c.args.store.now c.laws.ensures c.requires.parents c.args.space c.args.init c.args.status c.loop-number.store c.laws-in-Some.ensures.agree c.loop-number.invariant.numbers c.loop-number.from c.loop-number.invariant.slots c.in-Some-find.key c.in-Some.number found.0 here there found.2 c.requires.processes c.end_member.new.store c.loop-number.invariant.threads c.end_member.ensures.threads;
       below = omega (arith, in_range, bound);
     }
 
@@ -78,5 +78,10 @@ returns-clause-slots c =
     let none = rw c.numbers.ensures at c.in_default.ensures in
     falling.all-passed c.args.store.now c.laws.ensures c.requires.parents c.args.space c.args.init c.args.status c.loop-number.store c.laws-2.ensures.agree c.loop-number.invariant.numbers c.loop-number.from c.loop-number.invariant.slots none
 
-pub end_member-requires-clause-alone : goal.end_member-requires-clause-alone
-end_member-requires-clause-alone c = subst HasNoThreads (sym c.loop-number.invariant.threads) c.requires.alone
+pub returns-clause-threads : goal.returns-clause-threads
+returns-clause-threads c =
+    let none = rw c.numbers.ensures at c.in_default.ensures in
+    falling.threads-passed c.args.store.now c.laws.ensures c.requires.parents c.args.space c.args.init c.args.status c.loop-number.store c.laws-2.ensures.agree c.loop-number.invariant.numbers c.loop-number.from c.loop-number.invariant.slots none c.requires.processes c.loop-number.invariant.threads
+
+pub end_member-requires-clause-root : goal.end_member-requires-clause-root
+end_member-requires-clause-root c = subst (λ controls. IsSome (control_at controls 0)) (sym c.loop-number.invariant.homes.controls) c.requires.root

@@ -4,6 +4,3 @@ use Rattle.ns_teardown.proofs.members.finish_member.Goals as goal
 
 pub returns-clause-here : goal.returns-clause-here
 returns-clause-here c = grind (arith, common_steps)
-
-pub finish-requires-clause-stays : goal.finish-requires-clause-stays
-finish-requires-clause-stays c = c.requires.alone.stays c.args.key

@@ -1,8 +1,11 @@
 -- Marking namespaces as fallen changes no number or parent: so how each member ends is told by the store before the fall
-use Rattle.std.proofs.Common.{◌≡◌, is_some, sym, ap, subst, ◌∙◌, arith}
+use Rattle.std.proofs.Common.{◌≡◌, IsSome, is_some, sym, ap, subst, ◌∙◌, arith}
 use Rattle.pid_numbers.specs.Numbering.{path_at}
-use Rattle.task_table.specs.Store.{Store, HasNoThreads}
-use Rattle.ns_teardown.specs.Fall.{FallsWithin, slot_at, slot_after_fall}
+use Rattle.pid_types.specs.Controls.{control_at}
+use Rattle.task_table.specs.Store.{Store}
+use Rattle.thread_view.specs.Calling.{HasProcesses}
+use Rattle.thread_ends.specs.Ending.{EndsProcesses}
+use Rattle.ns_teardown.specs.Fall.{FallsWithin, is_visible_in, slot_at, slot_after_fall}
 use Rattle.ns_teardown.proofs.Visible as visible
 use Rattle.ns_teardown.proofs.Marked as marked
 use Rattle.ns_teardown.proofs.teardown.fall.Goals as goal
@@ -55,8 +58,18 @@ returns-clause-init c =
     returns-clause-slots c u.0 u.1 key
     ∙ marked.init-left c.args.store.now u.0.space key c.args.status first (marked.outer-parent c.args.store.now c.laws.ensures c.requires.good key u.0 u.1 first)
 
-pub returns-clause-threads : goal.returns-clause-threads
-returns-clause-threads c = c.end_members.ensures.threads ∙ ap (λ (s : Store). s.threads) c.fell.ensures.rest
+pub end_members-requires-clause-root : goal.end_members-requires-clause-root
+end_members-requires-clause-root c = subst (λ (s : Store). IsSome (control_at s.charges.controls 0)) (sym c.fell.ensures.rest) c.requires.root
 
-pub end_members-requires-clause-alone : goal.end_members-requires-clause-alone
-end_members-requires-clause-alone c = subst HasNoThreads (sym (ap (λ (s : Store). s.threads) c.fell.ensures.rest)) c.requires.alone
+pub end_members-requires-clause-processes : goal.end_members-requires-clause-processes
+end_members-requires-clause-processes c = subst HasProcesses (sym c.fell.ensures.rest) c.requires.processes
+
+pub returns-clause-threads : goal.returns-clause-threads
+returns-clause-threads c u is =
+    let init = c.args.init.now in
+    let falls : FallsWithin init.space c.args.store.now.numbering c.fell.new.self.numbering =
+    record { names = c.fell.ensures.names; order = c.fell.ensures.order; namespaces = c.fell.ensures.namespaces; bound = c.fell.ensures.bound } in
+    let same : is_visible_in c.fell.new.self.numbering init.space ≡ is_visible_in c.args.store.now.numbering u.space =
+    (λ i k. is_some (marked.number-marked init.space c.args.store.now.numbering c.fell.new.self.numbering falls k init.space i)) ∙ ap (is_visible_in c.args.store.now.numbering) (c.requires.own u is) in
+    subst (λ ends. EndsProcesses ends c.args.store.now.threads c.end_members.new.store.threads) same
+    (subst (λ old. EndsProcesses (is_visible_in c.fell.new.self.numbering init.space) old c.end_members.new.store.threads) (ap (λ (s : Store). s.threads) c.fell.ensures.rest) c.end_members.ensures.threads)
